@@ -1,0 +1,99 @@
+-- The tests of a payload, as they are read: its name, its number, and its check digits.
+-- Each goes by cases on the tests. Assumes nothing.
+use Prim.Native.Nat.{ℕ, _-_, _≤_, _<_}
+use mathlib.Core.Path.{_≡_, refl, _∙_}
+use mathlib.Core.Bool.{Bool, true, false, _&&_, cond}
+use mathlib.Core.List.{List, [], _∷_}
+use native.Mathlib.Omega.{arith}
+use lib.Dec.{eqb}
+use lib.ListN.{length, take, drop, getD, length-drop, drop-of-length-le}
+use lib.Seq.{length-take-le, take-all}
+use borrow.Author.Tests.{ne-eqb}
+use Rattle.rules.specs.Bytes.{part, every}
+use Rattle.rules.specs.Numbers.{isDigit, isHexDigit, hexNumber}
+use Rattle.rules.specs.Sentences.{nothingOrComma, gives, sum1, sum2, numberOf, is02, is03, is05, sentence02, sentence03, sentence05}
+use Rattle.rules.specs.Answers.{readTexts}
+use Rattle.rules.specs.declared.Frame.the-variants.{Apa02, Apa03, Apa05, Other}
+use Rattle.rules.specs.declared.Reading.the-variants.{Good}
+use Rattle.leaves.specs.Leaves.{digitsIn}
+use Rattle.leaves.proofs.Steps.{at as from-place}
+use Rattle.hex.specs.Hex.{pairIn}
+use Rattle.alpha.specs.Fields.{Text}
+use Rattle.alpha.specs.Held.{held}
+use Rattle.alpha.proofs.Texts.{as-wide, counted, count-below}
+
+-- Behind `APA` stand two digits, and then nothing or a comma.
+module _ (p : List ℕ) where
+  pub ends-here : length p ≡ 5 → nothingOrComma (drop 5 p) ≡ true
+  ends-here h = let l : length p ≤ 5 = omega arith in rw (drop-of-length-le p l)
+
+  pub goes-on : 5 < length p → nothingOrComma (drop 5 p) ≡ eqb (getD p 5 0) 44
+  goes-on h = rw (from-place p 5 h)
+
+  module _ (h : 5 ≤ length p) where
+    number-length : length (part 3 2 p) ≡ 2
+    number-length = length-take-le 2 (drop 3 p) (omega (arith, length-drop 3 p))
+
+    pub number-test : digitsIn (part 3 2 p) .good ≡ every isDigit (part 3 2 p)
+    number-test = as-wide 2 (part 3 2 p) (omega (arith, number-length)) (omega arith) ∙ rw number-length
+
+    module _ (digits : every isDigit (part 3 2 p) ≡ true) where
+      pub the-number : digitsIn (part 3 2 p) .count ≡ numberOf p
+      the-number = counted (part 3 2 p) (number-test ∙ digits)
+
+      pub number-small : digitsIn (part 3 2 p) .count < 100
+      number-small = rw the-number (count-below 2 (part 3 2 p) (omega (arith, number-length)) (number-test ∙ digits))
+
+-- What stands behind the number, to the end.
+pub behind : (p : List ℕ) → take (length p - 5) (drop 5 p) ≡ drop 5 p
+behind p = take-all (length p - 5) (drop 5 p) (omega (arith, length-drop 5 p))
+
+-- The check digits, two by two.
+by-pairs : (a b c d : Bool) (x y second first : ℕ)
+    → a && b && (c && d) && eqb (cond (a && b) x 0) second && eqb (cond (c && d) y 0) first
+    ≡ (a && (b && (c && (d && true)))) && eqb x second && eqb y first
+by-pairs true true true true x y second first = refl
+by-pairs true true true false x y second first = refl
+by-pairs true true false d x y second first = refl
+by-pairs true false c d x y second first = refl
+by-pairs false b c d x y second first = refl
+
+given-by : (check p : List ℕ) → length check ≡ 4
+    → pairIn (getD check 0 0) (getD check 1 0) .good && pairIn (getD check 2 0) (getD check 3 0) .good
+    && eqb (pairIn (getD check 0 0) (getD check 1 0) .value) (sum2 p)
+    && eqb (pairIn (getD check 2 0) (getD check 3 0) .value) (sum1 p)
+    ≡ gives check p
+unfolding gives every pairIn
+given-by (a ∷ b ∷ c ∷ d ∷ []) p h = by-pairs (isHexDigit a) (isHexDigit b) (isHexDigit c) (isHexDigit d) (hexNumber a b) (hexNumber c d) (sum2 p) (sum1 p)
+given-by [] p h = absurd (omega arith)
+given-by (a ∷ []) p h = absurd (omega arith)
+given-by (a ∷ b ∷ []) p h = absurd (omega arith)
+given-by (a ∷ b ∷ c ∷ []) p h = absurd (omega arith)
+given-by (a ∷ b ∷ c ∷ d ∷ e ∷ rest) p h = absurd (omega arith)
+
+-- the same, behind a test of the bytes
+pub checked : (allowed : Bool) (check p : List ℕ) → length check ≡ 4
+    → allowed && pairIn (getD check 0 0) (getD check 1 0) .good && pairIn (getD check 2 0) (getD check 3 0) .good
+    && eqb (pairIn (getD check 0 0) (getD check 1 0) .value) (sum2 p)
+    && eqb (pairIn (getD check 2 0) (getD check 3 0) .value) (sum1 p)
+    ≡ allowed && gives check p
+checked true check p h = given-by check p h
+checked false check p h = refl
+
+-- The answer, by the number.
+module _ (n : ℕ) (ts : List Text) where
+  pub as02 : n ≡ 2 → readTexts n ts ≡ held (is02 ts) (Apa02 (sentence02 ts))
+  unfolding readTexts
+  as02 e = rw e
+
+  pub as03 : n ≡ 3 → readTexts n ts ≡ held (is03 ts) (Apa03 (sentence03 ts))
+  unfolding readTexts
+  as03 e = rw e
+
+  pub as05 : n ≡ 5 → readTexts n ts ≡ held (is05 ts) (Apa05 (sentence05 ts))
+  unfolding readTexts
+  as05 e = rw e
+
+  pub as-other : (n ≡ 2 → ⊥) → (n ≡ 3 → ⊥) → (n ≡ 5 → ⊥) → readTexts n ts ≡ Good (Other n)
+  unfolding readTexts
+  as-other p q r = rw (ne-eqb n 2 p, ne-eqb n 3 q, ne-eqb n 5 r)

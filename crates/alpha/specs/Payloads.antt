@@ -1,0 +1,16 @@
+-- The tests of a payload, in two parts: how it begins, and what takes a pass over all of it.
+use Prim.Native.Nat.{ℕ}
+use mathlib.Core.Bool.{Bool, _&&_}
+use mathlib.Core.List.{List}
+use lib.ListN.{take, drop}
+use Rattle.rules.specs.Bytes.{ascii, same, part, every}
+use Rattle.rules.specs.Numbers.{isDigit}
+use Rattle.rules.specs.Sentences.{isPayloadByte, nothingOrComma, gives}
+
+-- `APA`, two digits, and then nothing or a comma
+abbrev pub isNamed : List ℕ → Bool
+isNamed p = same (take 3 p) (ascii "APA") && every isDigit (part 3 2 p) && nothingOrComma (drop 5 p)
+
+-- each byte may stand in a payload, and the check digits give its sums
+abbrev pub isChecked : List ℕ → List ℕ → Bool
+isChecked check p = every isPayloadByte p && gives check p

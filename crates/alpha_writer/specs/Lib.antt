@@ -1,0 +1,2 @@
+-- The parts of a sentence that a private function writes.
+pub mod Parts

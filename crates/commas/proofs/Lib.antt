@@ -1,0 +1,2 @@
+-- Laws of the texts between commas.
+pub mod Commas

@@ -1,0 +1,2 @@
+-- Where a field ends.
+pub mod Commas

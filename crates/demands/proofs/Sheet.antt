@@ -1,0 +1,35 @@
+-- The bench sheet's cases 1 to 10: each is computed from the definitions.
+-- Assumes nothing.
+use mathlib.Core.Path.{refl}
+use Rattle.rules.specs.Bytes.{total, oneOf, every, same}
+use Rattle.rules.specs.Numbers.{decimalFrom, padded, paddedNumber, pointed, pointedNumber, isHexDigit, hexDigitNumber}
+use Rattle.rules.specs.Codes.{isCode, isAckCode, isCommand, isAck}
+use Rattle.rules.specs.Status.{joined, isStatus, statusFrame, readable, statusInRange, statusOf}
+use Rattle.rules.specs.Sentences.{betweenCommas, gives, is05, isPayload, isPayloadByte, isSentence, sentence05, sum1From, sum2From}
+use Rattle.rules.specs.Answers.{readFamily1, readFamily2, readFamily3, readOne, readTexts}
+use Rattle.stream_rules.specs.Heads.{head, undecided, spe-undecided, payloadRun}
+use Rattle.stream_rules.specs.Rule.{rule, look, call}
+use Rattle.stream_rules.specs.Streams.{fed, shut, fresh}
+use Rattle.demands.specs.Bench.{BenchSheet}
+
+pub sheet : BenchSheet
+unfolding readOne readFamily1 isStatus isAck isAckCode isCode oneOf total same every joined statusFrame readable statusInRange statusOf padded paddedNumber pointed pointedNumber decimalFrom readFamily2 readTexts isSentence isPayload isPayloadByte gives sum1From sum2From isHexDigit hexDigitNumber betweenCommas is05 sentence05 readFamily3 isCommand rule look call head undecided spe-undecided payloadRun fed shut fresh
+sheet = record {
+  case1 = refl;
+  case2 = refl;
+  case3 = refl;
+  case4 = refl;
+  case4-closed = refl;
+  case4-closed-again = refl;
+  case4-done = refl;
+  case4-on = refl;
+  case4-on-again = refl;
+  case5-total = refl;
+  case5 = refl;
+  case6 = refl;
+  case7 = refl;
+  case8 = refl;
+  case9 = refl;
+  case10 = refl;
+  case10-command = refl;
+}

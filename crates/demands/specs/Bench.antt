@@ -1,0 +1,153 @@
+-- The cases of the bench sheet that are proved, 1 to 10, gathered under one statement over the definitions.
+use Prim.Native.Nat.{ℕ}
+use mathlib.Core.Path.{_≡_}
+use mathlib.Core.List.{List, [], _∷_, _++_}
+use lib.ListN.{replicate}
+use Rattle.rules.specs.Bytes.{ascii, total}
+use Rattle.rules.specs.Answers.{readOne, notGood}
+use Rattle.rules.specs.declared.Frame.the-variants.{Ack, Status, Command, Apa05}
+use Rattle.rules.specs.declared.Reading.the-variants.{Good, Refused}
+use Rattle.stream_rules.specs.Rule.{Found}
+use Rattle.stream_rules.specs.Streams.{fed, shut, fresh}
+use Rattle.stream_rules.specs.Lister.{frames}
+use Rattle.stream_rules.specs.declared.Reader.{Reader}
+use Rattle.stream_rules.specs.declared.Answer.{Answer}
+use Rattle.stream_rules.specs.declared.Answer.the-variants.{Ready, More, Done}
+use Rattle.stream_rules.specs.declared.Fed.{Fed}
+
+-- the bytes of the cases
+abbrev pub ack0D : List ℕ
+ack0D = 0xAA ∷ 0xAA ∷ 0xAA ∷ 0x01 ∷ 0x0D ∷ 0x0D ∷ []
+
+abbrev pub ack09 : List ℕ
+ack09 = 0xAA ∷ 0xAA ∷ 0xAA ∷ 0x01 ∷ 0x09 ∷ 0x09 ∷ []
+
+abbrev pub bytes1 : List ℕ
+bytes1 = 0xAA ∷ ack0D
+
+abbrev pub bytes2 : List ℕ
+bytes2 = ack0D ++ ack09
+
+abbrev pub bytes3 : List ℕ
+bytes3 = 0xAA ∷ 0xAA ∷ 0xAA ∷ 0x01 ∷ 0x0D ∷ 0x0E ∷ ack0D
+
+abbrev pub bytes4 : List ℕ
+bytes4 = 0xAA ∷ 0xAA ∷ 0xAA ∷ 0x43 ∷ bytes2
+
+abbrev pub data5 : List ℕ
+data5 = ascii ",20K,S,R,x,2,03,2t,0r,M,0000, 0.00, 0.00, 0.0, 0.0, 31, 29, 30,N,N,"
+
+abbrev pub report5 : ℕ → ℕ → List ℕ
+report5 a b = 0xAA ∷ 0xAA ∷ 0xAA ∷ 0x43 ∷ data5 ++ a ∷ b ∷ 0x0D ∷ 0x0A ∷ []
+
+abbrev pub sentence7 : List ℕ
+sentence7 = ascii "$APA05,11,18,1B,34,00,2A,01*A844"
+
+abbrev pub sentence8 : List ℕ
+sentence8 = ascii "$APA05,11,18,1B,34,00,2A,01*a844"
+
+-- case 4's reader: fresh, and after the 16 bytes; then with 59 zero bytes and one more offered, or closed
+abbrev pub first4 : Fed
+first4 = fed (fresh 1 .reader) bytes4
+
+abbrev pub on4 : Fed
+on4 = fed (first4 .reader) (replicate 60 0)
+
+abbrev pub on4-again : Fed
+on4-again = fed (on4 .reader) (replicate 1 0)
+
+abbrev pub closed4 : Fed
+closed4 = fed (shut (first4 .reader) .reader) []
+
+abbrev pub closed4-again : Fed
+closed4-again = fed (closed4 .reader) []
+
+abbrev pub acknowledged : ℕ → ℕ → ℕ → ℕ → Answer
+acknowledged taken start skipped code = Ready (record { taken = taken; start = start; skipped = skipped; length = 6; frame = Ack code })
+
+abbrev pub foundAck : ℕ → ℕ → ℕ → Found
+foundAck start skipped code = record { start = start; skipped = skipped; size = 6; frame = Ack code }
+
+pub record BenchSheet : Type 0 where
+  -- 1. One frame at 1.
+  pub case1 : frames 1 bytes1 ≡ foundAck 1 1 0x0D ∷ []
+  -- 2. Starts 0 and 6, skipped 0 and 0.
+  pub case2 : frames 1 bytes2 ≡ foundAck 0 0 0x0D ∷ foundAck 6 0 0x09 ∷ []
+  -- 3. Start 6, skipped 6.
+  pub case3 : frames 1 bytes3 ≡ foundAck 6 6 0x0D ∷ []
+  -- 4. Nothing is handed out on the 16 bytes.
+  pub case4 : first4 .answer ≡ More 16
+  -- At close, starts 4 and 10.
+  pub case4-closed : closed4 .answer ≡ acknowledged 0 4 4 0x0D
+  pub case4-closed-again : closed4-again .answer ≡ acknowledged 0 10 0 0x09
+  pub case4-done : fed (closed4-again .reader) [] .answer ≡ Done 0
+  -- With 59 zero bytes more, which make 75, the first comes; and the second before another byte is taken.
+  pub case4-on : on4 .answer ≡ acknowledged 59 4 4 0x0D
+  pub case4-on-again : on4-again .answer ≡ acknowledged 0 10 0 0x09
+  -- 5. The data sums to 3,434, and with check bytes 6A 0D the report is good.
+  pub case5-total : total data5 ≡ 3434
+  pub case5 : readOne 1 (report5 0x6A 0x0D)
+      ≡ Good (Status (record {
+        id = 20;
+        state = 83;
+        direction = 82;
+        bank = 120;
+        input = 2;
+        band = 3;
+        transmit = 2;
+        tuner = 116;
+        receive = 0;
+        level = 77;
+        watts = 0;
+        swratu = 0;
+        swrant = 0;
+        volts = 0;
+        amperes = 0;
+        upper = 31;
+        lower = 29;
+        combiner = 30;
+        warning = 78;
+        alarm = 78;
+      }))
+  -- 6. The same with 0D 6A is not good.
+  pub case6 : readOne 1 (report5 0x0D 0x6A) ≡ Refused notGood
+  -- 7. Nibbles 1 1, 1 8, 1 11, 3 4; then 0, 42, 1.
+  pub case7 : readOne 2 sentence7
+      ≡ Good (Apa05 (record {
+        band = 1;
+        segment = 1;
+        memory = 1;
+        antenna = 8;
+        meter = 1;
+        control = 11;
+        options = 3;
+        state = 4;
+        wtime = 0;
+        tcmd = 42;
+        lcmd = 1;
+      }))
+  -- 8. The same with a lowercase digit is not good.
+  pub case8 : readOne 2 sentence8 ≡ Refused notGood
+  -- 9. Start 5, skipped 5.
+  pub case9 : frames 2 (ascii "$APA0" ++ sentence7)
+      ≡ record {
+        start = 5;
+        skipped = 5;
+        size = 32;
+        frame = Apa05 (record {
+          band = 1;
+          segment = 1;
+          memory = 1;
+          antenna = 8;
+          meter = 1;
+          control = 11;
+          options = 3;
+          state = 4;
+          wtime = 0;
+          tcmd = 42;
+          lcmd = 1;
+        });
+      } ∷ []
+  -- 10. Code 90 is not acknowledged, and is a command.
+  pub case10 : readOne 1 (0xAA ∷ 0xAA ∷ 0xAA ∷ 0x01 ∷ 0x90 ∷ 0x90 ∷ []) ≡ Refused notGood
+  pub case10-command : readOne 3 (0x55 ∷ 0x55 ∷ 0x55 ∷ 0x01 ∷ 0x90 ∷ 0x90 ∷ []) ≡ Good (Command 0x90)

@@ -1,0 +1,2 @@
+-- What the bench sheet says.
+pub mod Bench

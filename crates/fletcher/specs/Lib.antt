@@ -1,0 +1,2 @@
+-- What the pass over a payload gives back.
+pub mod Sums

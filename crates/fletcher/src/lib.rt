@@ -1,0 +1,40 @@
+// The checksum of an Alpha sentence, in the same pass as the test of its payload's bytes.
+ghost use mathlib.Core.Path.{_≡_};
+ghost use Rattle.rules.specs.Sentences.{isPayloadByte};
+ghost use Rattle.fletcher.specs.Sums.{sumsIn};
+
+pub struct Sums {
+    // each byte may stand in a payload
+    pub allowed: bool,
+    pub sum1: u8,
+    pub sum2: u8,
+}
+
+// The two sums of the bytes, modulo 256, and whether each byte may stand in a payload.
+pub fn fletcher(p: &[u8]) -> Sums
+    ensures { λ r. ⌜ r ≡ sumsIn (now (p .entry)) ⌝ }
+{
+    let mut allowed = true;
+    let mut sum1: u8 = 0;
+    let mut sum2: u8 = 0;
+    let mut i = 0;
+    while i < p.len() {
+        let b = p[i];
+        allowed = allowed & payload_byte(b);
+        sum1 = std::num::wrapping_add_u8(sum1, b);
+        sum2 = std::num::wrapping_add_u8(sum2, sum1);
+        i += 1;
+    }
+    Sums {
+        allowed,
+        sum1,
+        sum2,
+    }
+}
+
+// Whether b may stand in a payload.
+pub fn payload_byte(b: u8) -> bool
+    ensures { λ r. ⌜ r ≡ isPayloadByte b ⌝ }
+{
+    (0x20 <= b) & (b <= 0x7E) & (b != b'$') & (b != b'*')
+}

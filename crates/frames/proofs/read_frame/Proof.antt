@@ -1,0 +1,62 @@
+-- `frames::read_frame` meets its contract: the test of the family picks the family's reader.
+-- Assumes nothing.
+use Prim.Native.Nat.{ℕ}
+use mathlib.Core.Path.{_≡_, _∙_}
+use mathlib.Core.List.{List}
+use borrow.Author.Needs.{needs}
+use borrow.Author.Tests.{eq-eqb, ne-eqb}
+use Rattle.rules.specs.Answers.{readOne, readFamily1, readFamily2, readFamily3}
+use Rattle.rules.specs.declared.Reading.the-variants.{Refused}
+use Rattle.frames.proofs.read_frame.Statement.{statement}
+use Rattle.frames.proofs.read_frame.Tie as tie
+
+module _ (family : ℕ) (bs : List ℕ) where
+  family1 : family ≡ 1 → readFamily1 bs ≡ readOne family bs
+  unfolding readOne
+  family1 e = rw (eq-eqb family 1 e)
+
+  family2 : (family ≡ 1 → ⊥) → family ≡ 2 → readFamily2 bs ≡ readOne family bs
+  unfolding readOne
+  family2 n e = rw (ne-eqb family 1 n, eq-eqb family 2 e)
+
+  family3 : (family ≡ 1 → ⊥) → (family ≡ 2 → ⊥) → family ≡ 3 → readFamily3 bs ≡ readOne family bs
+  unfolding readOne
+  family3 n m e = rw (ne-eqb family 1 n, ne-eqb family 2 m, eq-eqb family 3 e)
+
+  no-family : (family ≡ 1 → ⊥) → (family ≡ 2 → ⊥) → (family ≡ 3 → ⊥) → Refused 1 ≡ readOne family bs
+  unfolding readOne
+  no-family n m k = rw (ne-eqb family 1 n, ne-eqb family 2 m, ne-eqb family 3 k)
+
+read-reply-requires : tie.Need-read-reply-requires
+read-reply-requires c κs = search needs
+
+returns : tie.Need-returns
+returns c = c .read-reply .ensures ∙ family1 _ _ (c .before .if1 .taken)
+
+read-sentence-requires : tie.Need-read-sentence-requires
+read-sentence-requires c κs = search needs
+
+returns-2 : tie.Need-returns-2
+returns-2 c = c .read-sentence .ensures ∙ family2 _ _ (c .before .before .if1 .left) (c .before .if2 .taken)
+
+read-command-requires : tie.Need-read-command-requires
+read-command-requires c κs = search needs
+
+returns-3 : tie.Need-returns-3
+returns-3 c =
+    c .read-command .ensures ∙ family3 _ _ (c .before .before .before .if1 .left) (c .before .before .if2 .left) (c .before .if3 .taken)
+
+returns-4 : tie.Need-returns-4
+returns-4 c = no-family _ _ (c .before .before .if1 .left) (c .before .if2 .left) (c .if3 .left)
+
+pub read-frame-spec : {M : Type 1} → statement M
+read-frame-spec =
+    tie.close
+    (tie.spec
+    read-reply-requires
+    returns
+    read-sentence-requires
+    returns-2
+    read-command-requires
+    returns-3
+    returns-4)

@@ -1,0 +1,93 @@
+-- The run of payload bytes behind the first byte of a list: how long it is, byte by byte, and in a front of the list.
+-- By induction on the list; payload bytes in front of a list only lengthen its run. Assumes nothing.
+use Prim.Native.Nat.{ℕ, zero, suc, _+_, _-_, _<_, _≤_, min}
+use mathlib.Core.Path.{_≡_, sym, ap, _∙_}
+use mathlib.Core.Bool.{Bool, true, false, cond}
+use mathlib.Core.List.{List, [], _∷_, _++_}
+use native.Mathlib.Omega.{arith}
+use native.Mathlib.Decide.{decLt}
+use native.Mathlib.Nat.{add-comm}
+use lib.ListN.{length, take, drop, getD, length-take, length-drop, take-append-drop, drop-of-length-le}
+use lib.Seq.{drop-cons, drop-drop, getD-drop}
+use Rattle.rules.specs.Bytes.{every}
+use Rattle.rules.specs.Sentences.{isPayloadByte}
+use Rattle.laws.proofs.Bytes.{every-split}
+use Rattle.stream_rules.specs.Heads.{payloadRun}
+use Rattle.head_laws.proofs.Lists.{every-at, front-at}
+
+-- how many payload bytes stand behind the first byte, without a gap
+abbrev pub run : List ℕ → ℕ
+run bs = length (payloadRun (drop 1 bs))
+
+-- Payload bytes in front of a list only lengthen its run, and a byte that is none ends it.
+run-behind : (p bs : List ℕ) → every isPayloadByte p ≡ true → length (payloadRun (p ++ bs)) ≡ length p + length (payloadRun bs)
+unfolding payloadRun
+run-behind [] bs good = omega arith
+run-behind (b ∷ p) bs good =
+    let h = every-split isPayloadByte b p good in
+    rw (h .0) (omega (arith, run-behind p bs (h .1)))
+
+run-stops : (b : ℕ) (bs : List ℕ) → isPayloadByte b ≡ false → length (payloadRun (b ∷ bs)) ≡ 0
+unfolding payloadRun
+run-stops b bs other = rw other
+
+pub run-up-to : (first : ℕ) (p : List ℕ) (b : ℕ) (bs : List ℕ) → every isPayloadByte p ≡ true → isPayloadByte b ≡ false
+    → run (first ∷ p ++ b ∷ bs) ≡ length p
+run-up-to first p b bs good other = omega (arith, run-behind p (b ∷ bs) good, run-stops b bs other)
+
+-- The first r bytes behind the first one are payload bytes: so the run has at least those,
+module _ (bs : List ℕ) (r : ℕ) (there : r < length bs) (payload : (k : ℕ) → k < r → isPayloadByte (getD bs (k + 1) 0) ≡ true) where
+  run-over : run bs ≡ r + length (payloadRun (drop (r + 1) bs))
+  run-over =
+      let t = drop 1 bs in
+      let size : length (take r t) ≡ r = omega (arith, length-take r t, length-drop 1 bs) in
+      let at : (i : ℕ) → getD t i 0 ≡ getD bs (i + 1) 0 = λ i. getD-drop 1 bs i 0 ∙ ap (λ k. getD bs k 0) (add-comm 1 i) in
+      let front = every-at isPayloadByte (take r t) (λ i h. rw (front-at t r i h, at i) (payload i (omega arith))) in
+      ap (λ l. length (payloadRun l)) (sym (take-append-drop r t))
+      ∙ run-behind (take r t) (drop r t) front
+      ∙ ap (λ n. n + length (payloadRun (drop r t))) size
+      ∙ ap (λ l. r + length (payloadRun l)) (drop-drop r 1 bs ∙ ap (λ k. drop k bs) (add-comm 1 r))
+
+  pub run-at-least : r ≤ run bs
+  run-at-least = omega (arith, run-over)
+
+  -- and no more, where the list ends there, or the next byte is none.
+  pub run-is : (r + 1 < length bs → isPayloadByte (getD bs (r + 1) 0) ≡ false) → run bs ≡ r
+  unfolding payloadRun
+  run-is other =
+      elim (decLt (r + 1) (length bs)) [
+        | yes more ↦
+            let stops = run-stops (getD bs (r + 1) 0) (drop (suc (r + 1)) bs) (other more) in
+            omega (arith, run-over, ap (λ l. length (payloadRun l)) (drop-cons bs (r + 1) 0 more))
+        | no end ↦ omega (arith, run-over, ap (λ l. length (payloadRun l)) (drop-of-length-le bs {i = r + 1} (omega arith)))
+      ]
+
+-- The run ends within the list; and in a front of the list where that ends, if not before.
+run-within : (bs : List ℕ) → length (payloadRun bs) ≤ length bs
+unfolding payloadRun
+run-within [] = omega arith
+run-within (b ∷ bs) = by-byte (isPayloadByte b) (run-within bs)
+  where
+    by-byte : (good : Bool) → length (payloadRun bs) ≤ length bs → length (cond good (b ∷ payloadRun bs) []) ≤ suc (length bs)
+    by-byte true h = omega arith
+    by-byte false h = omega arith
+
+pub run-inside : (bs : List ℕ) → 0 < length bs → run bs < length bs
+run-inside bs some = omega (arith, run-within (drop 1 bs), length-drop 1 bs)
+
+run-take : (m : ℕ) (bs : List ℕ) → length (payloadRun (take m bs)) ≡ min m (length (payloadRun bs))
+unfolding payloadRun
+run-take zero bs = omega arith
+run-take (suc m) [] = omega arith
+run-take (suc m) (b ∷ bs) = by-byte (isPayloadByte b) (run-take m bs)
+  where
+    by-byte : (good : Bool) → length (payloadRun (take m bs)) ≡ min m (length (payloadRun bs))
+        → length (cond good (b ∷ payloadRun (take m bs)) []) ≡ min (suc m) (length (cond good (b ∷ payloadRun bs) []))
+    by-byte true h = omega arith
+    by-byte false h = omega arith
+
+pub run-front : (m : ℕ) (bs : List ℕ) → run (take m bs) ≡ min (m - 1) (run bs)
+unfolding payloadRun
+run-front zero bs = omega arith
+run-front (suc m) [] = omega arith
+run-front (suc m) (b ∷ bs) = omega (arith, run-take m bs)

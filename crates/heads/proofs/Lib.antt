@@ -1,0 +1,2 @@
+-- `Starts` turns the laws of heads into what is seen.
+pub mod Starts

@@ -1,0 +1,150 @@
+-- `heads::examine_packet` meets its contract: its tests go along the rules for an SPE start, byte by byte.
+-- Assumes nothing.
+use Prim.Native.Nat.{ℕ, _+_, _<_}
+use mathlib.Core.Path.{_≡_, sym, ap, _∙_}
+use mathlib.Core.List.{List}
+use native.Mathlib.Omega.{arith}
+use borrow.Author.Count.{below-none, below-more}
+use borrow.Author.Needs.{needs as kit}
+use lib.ListN.{length, getD}
+use Rattle.stream_rules.specs.Heads.{markOf, needs}
+use Rattle.head_laws.proofs.PacketStarts.{Marks, no-mark, no-count, bytes-missing, all-there}
+use Rattle.heads.proofs.Starts.{undecided, bad-start, by-whole, few}
+use Rattle.heads.proofs.examine_packet.Statement.{statement}
+use Rattle.heads.proofs.examine_packet.Tie as tie
+
+-- the marks that the tests have found
+none : (family : ℕ) (bs : List ℕ) → Marks family 0 bs
+none family bs = below-none (λ (i : ℕ). getD bs i 0 ≡ markOf family)
+
+more : (family : ℕ) (bs : List ℕ) (k : ℕ) → Marks family k bs → getD bs k 0 ≡ markOf family → Marks family (k + 1) bs
+more family bs k = below-more (λ (i : ℕ). getD bs i 0 ≡ markOf family) k
+
+one : (c : tie.Else2) → Marks (c .before .before .before .before .before .args .family) 1 (c .before .before .before .before .before .args .s .now)
+one c =
+    let a = c .before .before .before .before .before .args in
+    more (a .family) (a .s .now) 0 (none (a .family) (a .s .now)) (c .if2 .left ∙ c .before .before .before .mark-of .ensures)
+
+two : (c : tie.Else4) → Marks (c .before .before .before .before .before .before .before .before .args .family) 2 (c .before .before .before .before .before .before .before .before .args .s .now)
+two c =
+    let a = c .before .before .before .before .before .before .before .before .args in
+    more (a .family) (a .s .now) 1 (one (c .before .before .before)) (c .if4 .left ∙ c .before .before .before .before .before .before .mark-of .ensures)
+
+three : (c : tie.Else6) → Marks (c .before .before .before .before .before .before .before .before .before .before .before .args .family) 3 (c .before .before .before .before .before .before .before .before .before .before .before .args .s .now)
+three c =
+    let a = c .before .before .before .before .before .before .before .before .before .before .before .args in
+    more (a .family) (a .s .now) 2 (two (c .before .before .before)) (c .if6 .left ∙ c .before .before .before .before .before .before .before .before .before .mark-of .ensures)
+
+mark-of-requires : tie.Need-mark-of-requires
+mark-of-requires c κs = search kit
+
+returns : tie.Need-returns
+returns c =
+    let start = c .before .before .before in
+    let family = start .args .family in
+    let bytes = start .args .s .now in
+    few family (start .pre) bytes 0 (c .if1 .taken) (omega arith) (none family bytes)
+
+shared-slice-read-if2 : tie.Need-shared-slice-read-if2
+shared-slice-read-if2 c = search kit
+
+returns-2 : tie.Need-returns-2
+returns-2 c =
+    let start = c .before .before .before .before .before in
+    let family = start .args .family in
+    let bytes = start .args .s .now in
+    bad-start family bytes 1 (no-mark family (start .pre) bytes 0 (omega arith) (omega arith) (none family bytes) (λ e. c .if2 .taken (e ∙ sym (c .before .before .before .mark-of .ensures))))
+
+returns-3 : tie.Need-returns-3
+returns-3 c =
+    let start = c .before .before .before .before .before .before in
+    let family = start .args .family in
+    let bytes = start .args .s .now in
+    few family (start .pre) bytes 1 (c .if3 .taken) (omega arith) (one (c .before))
+
+shared-slice-read-if4 : tie.Need-shared-slice-read-if4
+shared-slice-read-if4 c = search kit
+
+returns-4 : tie.Need-returns-4
+returns-4 c =
+    let start = c .before .before .before .before .before .before .before .before in
+    let family = start .args .family in
+    let bytes = start .args .s .now in
+    bad-start family bytes 2 (no-mark family (start .pre) bytes 1 (omega arith) (omega arith) (one (c .before .before .before)) (λ e. c .if4 .taken (e ∙ sym (c .before .before .before .before .before .before .mark-of .ensures))))
+
+returns-5 : tie.Need-returns-5
+returns-5 c =
+    let start = c .before .before .before .before .before .before .before .before .before in
+    let family = start .args .family in
+    let bytes = start .args .s .now in
+    few family (start .pre) bytes 2 (c .if5 .taken) (omega arith) (two (c .before))
+
+shared-slice-read-if6 : tie.Need-shared-slice-read-if6
+shared-slice-read-if6 c = search kit
+
+returns-6 : tie.Need-returns-6
+returns-6 c =
+    let start = c .before .before .before .before .before .before .before .before .before .before .before in
+    let family = start .args .family in
+    let bytes = start .args .s .now in
+    bad-start family bytes 3 (no-mark family (start .pre) bytes 2 (omega arith) (omega arith) (two (c .before .before .before)) (λ e. c .if6 .taken (e ∙ sym (c .before .before .before .before .before .before .before .before .before .mark-of .ensures))))
+
+returns-7 : tie.Need-returns-7
+returns-7 c =
+    let start = c .before .before .before .before .before .before .before .before .before .before .before .before in
+    let family = start .args .family in
+    let bytes = start .args .s .now in
+    few family (start .pre) bytes 3 (c .if7 .taken) (omega arith) (three (c .before))
+
+shared-slice-read-bytes-needed : tie.Need-shared-slice-read-bytes-needed
+shared-slice-read-bytes-needed c = search kit
+
+bytes-needed-requires : tie.Need-bytes-needed-requires
+bytes-needed-requires c κs = search kit
+
+returns-8 : tie.Need-returns-8
+returns-8 c =
+    let start = c .before .before .before .before .before .before .before .before .before .before .before .before .before .before .before in
+    let family = start .args .family in
+    let bytes = start .args .s .now in
+    bad-start family bytes 4 (no-count family (start .pre) bytes (omega arith) (three (c .before .before .before .before)) (sym (c .before .bytes-needed .ensures) ∙ c .if8 .taken))
+
+returns-9 : tie.Need-returns-9
+returns-9 c =
+    let start = c .before .before .before .before .before .before .before .before .before .before .before .before .before .before .before .before in
+    let family = start .args .family in
+    let bytes = start .args .s .now in
+    undecided family bytes (bytes-missing family (start .pre) bytes (omega arith) (three (c .before .before .before .before .before)) _ (sym (c .before .before .bytes-needed .ensures)) (c .if9 .taken))
+
+whole-requires : tie.Need-whole-requires
+whole-requires c κs = search kit
+
+returns-10 : tie.Need-returns-10
+returns-10 c =
+    let start = c .before .before .before .before .before .before .before .before .before .before .before .before .before .before .before .before .before in
+    let family = start .args .family in
+    let bytes = start .args .s .now in
+    c .whole .ensures
+    ∙ by-whole family bytes _ (all-there family (start .pre) bytes (omega arith) (three (c .before .before .before .before .before .before)) _ (sym (c .before .before .before .bytes-needed .ensures)) (omega arith) (omega arith))
+
+pub examine-packet-spec : {M : Type 1} → statement M
+examine-packet-spec =
+    tie.close
+    (tie.spec
+    mark-of-requires
+    returns
+    shared-slice-read-if2
+    returns-2
+    returns-3
+    shared-slice-read-if4
+    returns-4
+    returns-5
+    shared-slice-read-if6
+    returns-6
+    returns-7
+    shared-slice-read-bytes-needed
+    bytes-needed-requires
+    returns-8
+    returns-9
+    whole-requires
+    returns-10)

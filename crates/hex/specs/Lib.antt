@@ -1,0 +1,2 @@
+-- What the digits' functions give back.
+pub mod Hex

@@ -1,0 +1,83 @@
+// The lister: the starts of all frames in a capture, and the earliest frame from a place on.
+use leaves::one_of;
+use leaves::text;
+use seek::First;
+use seek::first_good;
+use stream_rules::Listed;
+ghost use mathlib.Core.Path.{_≡_};
+ghost use mathlib.Core.List.{_++_};
+ghost use Prim.Native.Nat.{_≤_};
+ghost use lib.ListN.{length, drop};
+ghost use Rattle.stream_rules.specs.Lister.{frames, startsOf, Lists, frameFrom};
+
+// How many frames a capture holds.
+fn count_frames(family: u8, capture: &[u8]) -> usize
+    requires { ⌜ length (now capture) ≤ 65536 ⌝ }
+    ensures { λ r. ⌜ r ≡ length (frames family (now (capture .entry))) ⌝ }
+{
+    let mut at = 0;
+    let mut n = 0;
+    while at < capture.len() {
+        let First::At(start, size, _) = first_good(family, capture, at) else {
+            return n;
+        };
+        n += 1;
+        at = start + size;
+    }
+    n
+}
+
+// Fills in the starts, for which there is room.
+fn fill_starts(family: u8, capture: &[u8], starts: &mut [u32])
+    requires { ⌜ length (now capture) ≤ 65536 ⌝ }
+    requires { ⌜ length (frames family (now capture)) ≤ length (now starts) ⌝ }
+    ensures { λ _. ⌜ now (starts .exit) ≡ startsOf (frames family (now (capture .entry))) ++ drop (length (frames family (now (capture .entry)))) (now (starts .entry)) ⌝ }
+{
+    let mut at = 0;
+    let mut n = 0;
+    while at < capture.len() {
+        let First::At(start, size, _) = first_good(family, capture, at) else {
+            return;
+        };
+        starts[n] = start as u32;
+        n += 1;
+        at = start + size;
+    }
+}
+
+// The starts of the frames in a capture, and how many there are: refusal 1, then 7, then 4.
+pub fn list_frames(family: u8, capture: &[u8], starts: &mut [u32]) -> Listed
+    ensures { λ r. ⌜ Lists family (now (capture .entry)) (now (starts .entry)) r (now (starts .exit)) ⌝ }
+{
+    if !one_of(b"\x01\x02\x03", family) {
+        return Listed::Refused(1);
+    }
+    if 65536 < capture.len() {
+        return Listed::Refused(7);
+    }
+    let n = count_frames(family, capture);
+    if starts.len() < n {
+        return Listed::Refused(4);
+    }
+    fill_starts(family, capture, starts);
+    Listed::Count(n)
+}
+
+// The earliest good frame from a place on, as a part of the capture, or the empty part.
+pub fn next_frame(family: u8, capture: &[u8], place: usize) -> &[u8]
+    ensures { λ r. ⌜ now r ≡ frameFrom family (now (capture .entry)) place ⌝ }
+{
+    if !one_of(b"\x01\x02\x03", family) {
+        return &capture[..0];
+    }
+    if 65536 < capture.len() {
+        return &capture[..0];
+    }
+    if capture.len() < place {
+        return &capture[..0];
+    }
+    let First::At(start, size, _) = first_good(family, capture, place) else {
+        return &capture[..0];
+    };
+    text(capture, start, size)
+}

@@ -1,0 +1,2 @@
+-- What the pens leave in the lent output.
+pub mod Pens

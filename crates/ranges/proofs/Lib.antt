@@ -1,0 +1,2 @@
+-- Laws that the ranges share.
+pub mod Tests

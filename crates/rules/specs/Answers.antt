@@ -1,0 +1,158 @@
+-- The answers: what a reader of one frame gives and what a writer gives and leaves, the refusals and their order.
+use Prim.Native.Nat.{ℕ}
+use mathlib.Core.Path.{_≡_}
+use mathlib.Core.Bool.{Bool, true, false, _&&_, cond}
+use mathlib.Core.List.{List, [], _∷_, _++_, map}
+use lib.Dec.{eqb, leb}
+use lib.IntN.{ℤ, pos}
+use lib.ListN.{length, drop, getD}
+use Rattle.rules.specs.Codes.{isCode, isAckCode, isAck, isCommand, ack, command}
+use Rattle.rules.specs.Status.{isStatus, statusOf, dataOf, statusInRange, statusBytes}
+use Rattle.rules.specs.Sentences.{isSentence, payloadOf, numberOf, textsOf, is02, is03, is05, sentence02, sentence03, sentence05, inRange02, inRange03, inRange05, numbers02, numbers03, bytes02, bytes03, bytes05, enableBytes}
+use Rattle.rules.specs.declared.Status as StatusType
+use Rattle.rules.specs.declared.Sentence02.{Sentence02}
+use Rattle.rules.specs.declared.Sentence03.{Sentence03}
+use Rattle.rules.specs.declared.Sentence05.{Sentence05}
+use Rattle.rules.specs.declared.Frame.{Frame}
+use Rattle.rules.specs.declared.Frame.the-variants.{Ack, Status, Command, Apa02, Apa03, Apa05, Other}
+use Rattle.rules.specs.declared.Reading.{Reading}
+use Rattle.rules.specs.declared.Reading.the-variants.{Good, Refused}
+use Rattle.rules.specs.declared.Written.{Written}
+use Rattle.rules.specs.declared.Written.the-variants.{Length, Refused as NotWritten}
+
+-- The numbers for no, of those that a reader of one frame and a writer give.
+abbrev pub noFamily : ℕ
+noFamily = 1
+
+abbrev pub noCode : ℕ
+noCode = 2
+
+abbrev pub noRecord : ℕ
+noRecord = 3
+
+abbrev pub noRoom : ℕ
+noRoom = 4
+
+abbrev pub notGood : ℕ
+notGood = 8
+
+-- document 01's number of an answer: 0 where it is no refusal
+abbrev pub refusal : Reading → ℕ
+refusal (Good f) = 0
+refusal (Refused n) = n
+
+abbrev pub refusalToWrite : Written → ℕ
+refusalToWrite (Length n) = 0
+refusalToWrite (NotWritten n) = n
+
+-- The values of a frame, in the order of document 01: of a status report its fields, of a sentence with a record its
+-- numbers, of the others their code or number.
+abbrev pub statusNumbers : StatusType.Status → List ℕ
+statusNumbers s =
+    s .id ∷ s .state ∷ s .direction ∷ s .bank ∷ s .input ∷ s .band ∷ s .transmit ∷ s .tuner ∷ s .receive ∷ s .level
+    ∷ s .watts ∷ s .swratu ∷ s .swrant ∷ s .volts ∷ s .amperes ∷ s .upper ∷ s .lower ∷ s .combiner ∷ s .warning ∷ s .alarm ∷ []
+
+abbrev pub numbers05 : Sentence05 → List ℕ
+numbers05 r =
+    r .band ∷ r .segment ∷ r .memory ∷ r .antenna ∷ r .meter ∷ r .control ∷ r .options ∷ r .state ∷ r .wtime ∷ r .tcmd ∷ r .lcmd ∷ []
+
+abbrev pub values : Frame → List ℤ
+values (Ack c) = pos c ∷ []
+values (Status s) = map pos (statusNumbers s)
+values (Command c) = pos c ∷ []
+values (Apa02 r) = map pos (numbers02 r)
+values (Apa03 r) = map pos (numbers03 r) ++ r .temp ∷ []
+values (Apa05 r) = map pos (numbers05 r)
+values (Other n) = pos n ∷ []
+
+-- One good frame, as a whole, or refusal 8. Family 1 is an acknowledgement or a status report:
+unfoldable pub readFamily1 : List ℕ → Reading
+readFamily1 bs =
+    cond (isAck bs) (Good (Ack (getD bs 4 0)))
+    (cond (isStatus bs) (Good (Status (statusOf (dataOf bs))))
+    (Refused notGood))
+
+-- Family 2 is a sentence. One numbered 02, 03 or 05 that breaks its field rules is not good; one with another number is
+-- handed out with its number and no values.
+unfoldable pub readTexts : ℕ → List (List ℕ) → Reading
+readTexts n ts =
+    cond (eqb n 2) (cond (is02 ts) (Good (Apa02 (sentence02 ts))) (Refused notGood))
+    (cond (eqb n 3) (cond (is03 ts) (Good (Apa03 (sentence03 ts))) (Refused notGood))
+    (cond (eqb n 5) (cond (is05 ts) (Good (Apa05 (sentence05 ts))) (Refused notGood))
+    (Good (Other n))))
+
+unfoldable pub readFamily2 : List ℕ → Reading
+readFamily2 bs = cond (isSentence bs) (readTexts (numberOf (payloadOf bs)) (textsOf (payloadOf bs))) (Refused notGood)
+
+-- Family 3 is a command.
+unfoldable pub readFamily3 : List ℕ → Reading
+readFamily3 bs = cond (isCommand bs) (Good (Command (getD bs 4 0))) (Refused notGood)
+
+-- A reader of one frame: refusal 1 where the family is not 1, 2 or 3, else 8 where the bytes are not one good frame.
+unfoldable pub readOne : ℕ → List ℕ → Reading
+readOne family bs =
+    cond (eqb family 1) (readFamily1 bs)
+    (cond (eqb family 2) (readFamily2 bs)
+    (cond (eqb family 3) (readFamily3 bs)
+    (Refused noFamily)))
+
+-- A writer of a frame: refusal n where the code or the record is not allowed, then 4 where the lent output is shorter
+-- than the frame; else the frame's length. The frame stands at the front of the output, the bytes behind it are
+-- unchanged, and on a refusal all are.
+abbrev pub written : Bool → ℕ → List ℕ → List ℕ → Written
+written allowed n frame out = cond allowed (cond (leb (length frame) (length out)) (Length (length frame)) (NotWritten noRoom)) (NotWritten n)
+
+abbrev pub leaves : Bool → List ℕ → List ℕ → List ℕ
+leaves allowed frame out = cond (allowed && leb (length frame) (length out)) (frame ++ drop (length frame) out) out
+
+pub record Writes (allowed : Bool) (n : ℕ) (frame out : List ℕ) (answer : Written) (after : List ℕ) : Type 0 where
+  pub answers : answer ≡ written allowed n frame out
+  pub content : after ≡ leaves allowed frame out
+
+-- What the writers know of a frame: the family that reads it, whether its code or record is allowed, and its bytes. An
+-- "other" sentence has no writer.
+abbrev pub familyOf : Frame → ℕ
+familyOf (Ack c) = 1
+familyOf (Status s) = 1
+familyOf (Command c) = 3
+familyOf (Apa02 r) = 2
+familyOf (Apa03 r) = 2
+familyOf (Apa05 r) = 2
+familyOf (Other n) = 2
+
+unfoldable pub allowed : Frame → Bool
+allowed (Ack c) = isAckCode c
+allowed (Status s) = statusInRange s
+allowed (Command c) = isCode c
+allowed (Apa02 r) = inRange02 r
+allowed (Apa03 r) = inRange03 r
+allowed (Apa05 r) = inRange05 r
+allowed (Other n) = false
+
+unfoldable pub bytesOf : Frame → List ℕ
+bytesOf (Ack c) = ack c
+bytesOf (Status s) = statusBytes s
+bytesOf (Command c) = command c
+bytesOf (Apa02 r) = bytes02 r
+bytesOf (Apa03 r) = bytes03 r
+bytesOf (Apa05 r) = bytes05 r
+bytesOf (Other n) = []
+
+abbrev pub hasWriter : Frame → Bool
+hasWriter (Ack c) = true
+hasWriter (Status s) = true
+hasWriter (Command c) = true
+hasWriter (Apa02 r) = true
+hasWriter (Apa03 r) = true
+hasWriter (Apa05 r) = true
+hasWriter (Other n) = false
+
+-- the refusal of a frame that is not allowed: 2 for a code, 3 for a record
+abbrev pub notAllowed : Frame → ℕ
+notAllowed (Ack c) = noCode
+notAllowed (Status s) = noRecord
+notAllowed (Command c) = noCode
+notAllowed (Apa02 r) = noRecord
+notAllowed (Apa03 r) = noRecord
+notAllowed (Apa05 r) = noRecord
+notAllowed (Other n) = noRecord

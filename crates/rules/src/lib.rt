@@ -1,0 +1,110 @@
+// What is read and written: the records of the three families, the frame that holds one of them,
+// and the answers of a reader and of a writer. The rules for them stand in specs/.
+
+// A status report of an SPE amplifier: fields 1 to 19 of document 01, of which 7 holds two. Letters
+// are kept as their ASCII bytes.
+pub struct Status {
+    // 20 for 20K, 13 for 13K
+    pub id: u8,
+    // S or O
+    pub state: u8,
+    // R or T
+    pub direction: u8,
+    // x, A or B
+    pub bank: u8,
+    pub input: u8,
+    pub band: u8,
+    // the transmit antenna
+    pub transmit: u8,
+    // t, b or a
+    pub tuner: u8,
+    // the receive antenna
+    pub receive: u8,
+    // L, M or H
+    pub level: u8,
+    pub watts: u32,
+    // the SWR before the ATU, in hundredths
+    pub swratu: u32,
+    // the SWR of the antenna, in hundredths
+    pub swrant: u32,
+    // in tenths
+    pub volts: u32,
+    // in tenths
+    pub amperes: u32,
+    // three temperatures
+    pub upper: u32,
+    pub lower: u32,
+    pub combiner: u32,
+    pub warning: u8,
+    pub alarm: u8,
+}
+
+// Sentence 02 of the Alpha 9500, by the names of its format line in source document 001.
+pub struct Sentence02 {
+    pub pfwd: u32,
+    pub swr: u32,
+    pub pin: u32,
+    pub vp: u32,
+    pub ip: u32,
+    pub gain: u32,
+    pub vg: u32,
+    pub ig: u32,
+    pub band: u32,
+    pub state: u32,
+    pub fault: u32,
+    pub key: u32,
+    pub pep: u32,
+}
+
+// Sentence 03: five supply voltages, the AC line, the mains board's status and tap, the temperature.
+pub struct Sentence03 {
+    pub v5: u32,
+    pub v12: u32,
+    pub v24: u32,
+    pub m12: u32,
+    pub v40: u32,
+    pub acline: u32,
+    pub mbstatus: u32,
+    pub mbtap: u32,
+    // in tenths, with its sign
+    pub temp: i32,
+}
+
+// Sentence 05: the two nibbles of each of its first four fields, then three numbers.
+pub struct Sentence05 {
+    pub band: u8,
+    pub segment: u8,
+    pub memory: u8,
+    pub antenna: u8,
+    pub meter: u8,
+    pub control: u8,
+    pub options: u8,
+    pub state: u8,
+    pub wtime: u8,
+    pub tcmd: u8,
+    pub lcmd: u8,
+}
+
+// One good frame of any family. An acknowledgement and a command hold their code, another sentence
+// its number.
+pub enum Frame {
+    Ack(u8),
+    Status(Status),
+    Command(u8),
+    Apa02(Sentence02),
+    Apa03(Sentence03),
+    Apa05(Sentence05),
+    Other(u8),
+}
+
+// The answer of a reader of one frame.
+pub enum Reading {
+    Good(Frame),
+    Refused(u8),
+}
+
+// The answer of a writer: how many bytes it wrote.
+pub enum Written {
+    Length(usize),
+    Refused(u8),
+}

@@ -1,0 +1,169 @@
+-- `seek::seek` meets its contract. The loop's invariant: every start before `at` is bad, and `reach` is how far the bytes
+-- reach that settled those. The measure is what is left of the bytes.
+-- Assumes nothing.
+use Prim.Native.Nat.{ℕ, suc, max, _+_, _-_, _≤_, _<_}
+use mathlib.Core.Path.{_≡_, refl, sym, ap, subst⁻¹, _∙_}
+use mathlib.Core.List.{List}
+use native.Mathlib.Numerals.{add-one}
+use native.Mathlib.Omega.{arith}
+use borrow.Author.Count.{below-none, below-more}
+use borrow.Author.Needs.{needs}
+use lib.ListN.{length, drop, length-drop}
+use lib.Seq.{take-all}
+use Rattle.rules.specs.declared.Frame.{Frame}
+use Rattle.stream_rules.specs.Heads.{Head, wait, bad, good, head}
+use Rattle.stream_rules.specs.Rule.{Look, byLook, look}
+use Rattle.stream_rules.specs.Settled.{settled, reach}
+use Rattle.head_laws.proofs.Heads.{settling}
+use Rattle.seek_laws.proofs.Families.{facts}
+use Rattle.seek_laws.proofs.Starts.{BadBefore, look-at-good, look-at-wait, look-at-end}
+use Rattle.heads.specs.Seen.{seen}
+use Rattle.heads.proofs.Starts.{seen-good, seen-bad, seen-undecided}
+use Rattle.seek.specs.Sought.{soughtIn}
+use Rattle.seek.specs.declared.Sought.{Sought}
+use Rattle.seek.specs.declared.Sought.the-variants.{Ready, Waiting}
+use Rattle.seek.proofs.seek.Statement.{statement}
+use Rattle.seek.proofs.seek.Tie as tie
+
+-- what a look at the bytes says, as an answer
+abbrev answer : ℕ → List ℕ → Look → Sought
+answer family s l =
+    byLook l (λ k n f behind. Ready (record { start = k; length = n; reach = reach family k s; frame = f })) (λ k rest. Waiting k)
+
+module _ (family : ℕ) (s : List ℕ) (at : ℕ) (before : BadBefore (head family) s at) where
+  stops-at-good : (far n : ℕ) (f : Frame) → far ≡ reach family at s → head family (drop at s) ≡ good n f
+      → Ready (record { start = at; length = n; reach = far; frame = f }) ≡ soughtIn family s
+  unfolding soughtIn
+  stops-at-good far n f e here =
+      ap (λ (r : ℕ). Ready (record { start = at; length = n; reach = r; frame = f })) e
+      ∙ ap (answer family s) (sym (look-at-good (facts family) s at n f before here))
+
+  stops-at-wait : at ≤ length s → head family (drop at s) ≡ wait → Waiting at ≡ soughtIn family s
+  unfolding soughtIn
+  stops-at-wait there here = ap (answer family s) (sym (look-at-wait (head family) s at there before here))
+
+  ends : at ≡ length s → Waiting at ≡ soughtIn family s
+  unfolding soughtIn
+  ends e =
+      ap Waiting e ∙ ap (answer family s) (sym (look-at-end (head family) s (subst⁻¹ (λ (n : ℕ). BadBefore (head family) s n) (sym e) before)))
+
+  -- a bad start at `at` is settled by bytes that are there
+  settles : (d : ℕ) → (head family (drop at s) ≡ bad) × (settled family (drop at s) ≡ d) → d ≤ length s - at
+  settles d h =
+      let there = settling family (drop at s) (λ e. let z : _≡_ {A = ℕ} 0 1 = cc (h .0) in omega arith) .there in
+      omega (arith, there, h .1, length-drop at s)
+
+abbrev Inv-loop : tie.InvT-loop
+Inv-loop family s at₀ far₀ at far = (at ≤ length s) × (BadBefore (head family) s at × (far ≡ reach family at s))
+
+abbrev μ-loop : tie.MeasureT-loop
+μ-loop family s at₀ far₀ at far = length s - at
+
+-- what was seen at `at`
+here : (c : tie.After-examine Inv-loop μ-loop) → c .examine .result ≡ seen (c .before .before .before .before .before .args .family) (drop (c .before .before .before .loop .at) (c .before .before .before .before .before .args .s .now))
+here c =
+    let s = c .before .before .before .before .before .args .s .now in
+    let at = c .before .before .before .loop .at in
+    c .examine .ensures ∙ ap (seen _) (take-all (length s - at) (drop at s) (omega (arith, length-drop at s)))
+
+loop-holds : tie.Need-loop-holds Inv-loop μ-loop
+unfolding reach
+loop-holds c =
+    let a = c .before .args in
+    (omega arith, (below-none (λ (j : ℕ). head (a .family) (drop j (a .s .now)) ≡ bad), refl))
+
+sub-examine : tie.Need-sub-examine Inv-loop μ-loop
+sub-examine c = omega arith
+
+part-examine-start : tie.Need-part-examine-start Inv-loop μ-loop
+part-examine-start c = omega arith
+
+part-examine-end : tie.Need-part-examine-end Inv-loop μ-loop
+part-examine-end c = omega arith
+
+examine-requires : tie.Need-examine-requires Inv-loop μ-loop
+examine-requires c κs = search needs
+
+enum-known-n : tie.Need-enum-known-n Inv-loop μ-loop
+enum-known-n c = search needs
+
+returns : tie.Need-returns Inv-loop μ-loop
+returns c =
+    let loop = c .before .before .before .before .before .before .loop in
+    let a = c .before .before .before .before .before .before .before .before .args in
+    stops-at-good (a .family) (a .s .now) (loop .at) (loop .inv .1 .0) _ _ _ (loop .inv .1 .1)
+    (seen-good (a .family) (drop (loop .at) (a .s .now)) _ _ (sym (here (c .before .before .before)) ∙ c .before .n .given .1))
+
+enum-told : tie.Need-enum-told Inv-loop μ-loop
+enum-told c = search needs
+
+returns-2 : tie.Need-returns-2 Inv-loop μ-loop
+returns-2 c =
+    let loop = c .before .before .before .before .before .loop in
+    let a = c .before .before .before .before .before .before .before .args in
+    stops-at-wait (a .family) (a .s .now) (loop .at) (loop .inv .1 .0) (loop .inv .0)
+    (seen-undecided (a .family) (drop (loop .at) (a .s .now)) (sym (here (c .before .before)) ∙ c .enum-told .given .1))
+
+enum-known-d : tie.Need-enum-known-d Inv-loop μ-loop
+enum-known-d c = search needs
+
+add-further : tie.Need-add-further Inv-loop μ-loop
+add-further c =
+    let loop = c .before .before .before .before .before .before .loop in
+    let a = c .before .before .before .before .before .before .before .before .args in
+    let is-bad = seen-bad (a .family) (drop (loop .at) (a .s .now)) _ (sym (here (c .before .before .before)) ∙ c .before .d .given .1) in
+    omega (arith, settles (a .family) (a .s .now) (loop .at) (loop .inv .1 .0) (c .before .d .given .0 .0) is-bad)
+
+further-requires : tie.Need-further-requires Inv-loop μ-loop
+further-requires c κs = search needs
+
+add-at : tie.Need-add-at Inv-loop μ-loop
+add-at c = omega arith
+
+loop-less : tie.Need-loop-less Inv-loop μ-loop
+loop-less c = omega arith
+
+loop-again : tie.Need-loop-again Inv-loop μ-loop
+unfolding reach
+loop-again c =
+    let loop = c .before .before .before .before .before .before .before .loop in
+    let a = c .before .before .before .before .before .before .before .before .before .args in
+    let s = a .s .now in
+    let is-bad = seen-bad (a .family) (drop (loop .at) s) _ (sym (here (c .before .before .before .before)) ∙ c .before .before .d .given .1) in (
+      omega arith,
+      (
+        below-more (λ (j : ℕ). head (a .family) (drop j s) ≡ bad) (loop .at) (loop .inv .1 .0) (is-bad .0),
+        c .further .ensures
+            ∙ (λ i. max (loop .inv .1 .1 i) (loop .at + sym (is-bad .1) i))
+            ∙ ap (λ (k : ℕ). reach (a .family) k s) (sym (add-one (loop .at))),
+      ),
+    )
+
+returns-3 : tie.Need-returns-3 Inv-loop μ-loop
+returns-3 c =
+    let loop = c .before .loop in
+    let a = c .before .before .before .args in
+    ends (a .family) (a .s .now) (loop .at) (loop .inv .1 .0) (omega arith)
+
+pub seek-spec : {M : Type 1} → statement M
+seek-spec =
+    tie.close
+    (tie.spec
+    Inv-loop
+    μ-loop
+    loop-holds
+    sub-examine
+    part-examine-start
+    part-examine-end
+    examine-requires
+    enum-known-n
+    returns
+    enum-told
+    returns-2
+    enum-known-d
+    add-further
+    further-requires
+    add-at
+    loop-less
+    loop-again
+    returns-3)

@@ -1,0 +1,23 @@
+-- What the walks along the starts give, in the words of the rules.
+use Prim.Native.Nat.{ℕ, _+_}
+use mathlib.Core.List.{List}
+use lib.ListN.{drop}
+use Rattle.stream_rules.specs.Heads.{head, atClose}
+use Rattle.stream_rules.specs.Rule.{look, byLook}
+use Rattle.stream_rules.specs.Settled.{reach}
+use Rattle.seek.specs.declared.Sought as SoughtType
+use Rattle.seek.specs.declared.Sought.the-variants.{Ready, Waiting}
+use Rattle.seek.specs.declared.First.{First}
+use Rattle.seek.specs.declared.First.the-variants.{At, Nothing}
+
+-- the first start that is not bad
+unfoldable pub soughtIn : ℕ → List ℕ → SoughtType.Sought
+soughtIn family bs =
+    byLook (look (head family) bs)
+    (λ k n f behind. Ready (record { start = k; length = n; reach = reach family k bs; frame = f }))
+    (λ k rest. Waiting k)
+
+-- the first good frame from a place on, at close
+unfoldable pub firstFrom : ℕ → List ℕ → ℕ → First
+firstFrom family bs from =
+    byLook (look (atClose (head family)) (drop from bs)) (λ k n f behind. At (from + k) n f) (λ k rest. Nothing)

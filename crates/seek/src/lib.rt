@@ -1,0 +1,75 @@
+// Walks the starts of some bytes: to the first that is not bad, or to the first good frame. Each
+// start is examined once.
+use heads::Seen;
+use heads::examine;
+use rules::Frame;
+ghost use mathlib.Core.Path.{_≡_};
+ghost use Prim.Native.Nat.{max};
+ghost use Rattle.seek.specs.Sought.{soughtIn, firstFrom};
+
+// A good frame whose earlier starts are all bad: its place, its length, how far the bytes reach that
+// settled those, and what it says.
+pub struct Hit {
+    pub start: usize,
+    pub length: usize,
+    pub reach: usize,
+    pub frame: Frame,
+}
+
+// The first start that is not bad: a good frame, or the place of an undecided one.
+pub enum Sought {
+    Ready(Hit),
+    Waiting(usize),
+}
+
+// The first good frame: its place, its length, and what it says.
+pub enum First {
+    At(usize, usize, Frame),
+    Nothing,
+}
+
+fn further(a: usize, b: usize) -> usize
+    ensures { λ r. ⌜ r ≡ max a b ⌝ }
+{
+    if a < b { b } else { a }
+}
+
+// The first start that is not bad.
+pub fn seek(family: u8, s: &[u8]) -> Sought
+    ensures { λ r. ⌜ r ≡ soughtIn family (now (s .entry)) ⌝ }
+{
+    let mut at = 0;
+    let mut reach = 0;
+    while at < s.len() {
+        match examine(family, &s[at..]) {
+            Seen::Good(n, f) => {
+                return Sought::Ready(Hit {
+                    start: at,
+                    length: n,
+                    reach,
+                    frame: f,
+                });
+            }
+            Seen::Undecided => return Sought::Waiting(at),
+            Seen::Bad(d) => {
+                reach = further(reach, at + d);
+            }
+        }
+        at += 1;
+    }
+    Sought::Waiting(at)
+}
+
+// The first good frame from a place on, with nothing more to come.
+pub fn first_good(family: u8, s: &[u8], from: usize) -> First
+    ensures { λ r. ⌜ r ≡ firstFrom family (now (s .entry)) from ⌝ }
+{
+    let mut at = from;
+    while at < s.len() {
+        if let Seen::Good(n, f) = examine(family, &s[at..]) {
+            return First::At(at, n, f);
+        }
+        at += 1;
+    }
+    First::Nothing
+}

@@ -1,0 +1,129 @@
+-- What settles the answer of a call, for code that does not take its bytes one by one: the looks at what is held and
+-- taken; and the call on a first piece of the bytes, which the call on the rest goes on from. No two answers have the same
+-- looks, and a call on two pieces goes byte by byte. Assumes nothing.
+use Prim.Native.Nat.{ℕ, zero, suc, _+_, _<_}
+use mathlib.Core.Path.{_≡_, refl, ap, subst, _∙_}
+use mathlib.Core.List.{List, [], _∷_, _++_, append-assoc}
+use native.Mathlib.Nat.{add-zero, zero-add, suc-add, add-assoc}
+use native.Mathlib.Decide.{decLt}
+use native.Mathlib.Omega.{arith}
+use lib.ListN.{length, take, drop, take-append-drop}
+use lib.Seq.{take-all}
+use Rattle.rules.specs.declared.Frame.{Frame}
+use Rattle.stream_rules.specs.Heads.{Head, wait}
+use Rattle.stream_rules.specs.Rule.{Look, ready, waiting, byLook, look, Call, gives, wants, took, call}
+use Rattle.stream_laws.proofs.Facts.{Facts}
+use Rattle.stream_laws.proofs.Looks.{further, look-on, kept-waits}
+use Rattle.stream_laws.proofs.Calls.{Waits, Handed, call-gives, call-wants, wants-short}
+use Rattle.seek_laws.proofs.Starts.{look-at-wait}
+
+-- A call by its looks.
+module _ {h : List ℕ → Head} {top : ℕ} (facts : Facts h top) (held offered : List ℕ) where
+  -- The frame that is ready with some of the bytes offered, where none is with fewer, is the one given.
+  pub call-is-gives : (taken k n : ℕ) (f : Frame) (kept : List ℕ) → Handed h held offered taken k n f kept → call h held offered ≡ gives taken k n f kept
+  call-is-gives taken k n f kept given = go (call h held offered) refl
+    where
+      go : (c : Call) → call h held offered ≡ c → call h held offered ≡ gives taken k n f kept
+      go (gives t j m g rest) e =
+          let other = call-gives h top facts held offered t j m g rest e in
+          elim (decLt t taken) [
+            | yes sooner ↦ absurd (subst Waits (other .looks) (given .none-sooner t sooner))
+            | no not-sooner ↦ elim (decLt taken t) [
+              | yes later ↦ absurd (subst Waits (given .looks) (other .none-sooner taken later))
+              | no not-later ↦ let same : t ≡ taken = omega arith in cc
+            ]
+          ]
+      go (wants t j rest) e =
+          let other = call-wants h top facts held offered t j rest e in
+          elim (decLt taken t) [
+            | yes later ↦ absurd (subst Waits (given .looks) (other .none-sooner taken later))
+            | no not-later ↦ let all : take taken offered ≡ offered = take-all taken offered (omega (arith, other .everything)) in
+                let z : _≡_ {A = ℕ} 0 1 = cc in
+                absurd (omega arith)
+          ]
+
+  -- Where none is ready with all of them, more is wanted.
+  pub call-is-wants : (k : ℕ) (rest : List ℕ) → look h (held ++ offered) ≡ waiting k rest → call h held offered ≡ wants (length offered) k rest
+  call-is-wants k rest none = go (call h held offered) refl
+    where
+      go : (c : Call) → call h held offered ≡ c → call h held offered ≡ wants (length offered) k rest
+      go (gives t j m g kept) e =
+          let other = call-gives h top facts held offered t j m g kept e in
+          let cut : held ++ take t offered ++ drop t offered ≡ held ++ offered = append-assoc held (take t offered) (drop t offered) ∙ ap (λ (l : List ℕ). held ++ l) (take-append-drop t offered) in
+          let on : look h (held ++ take t offered ++ drop t offered) ≡ ready j m g (kept ++ drop t offered) =
+          look-on h top facts (drop t offered) (held ++ take t offered) ∙ ap (further h (drop t offered)) (other .looks) in
+          let z : _≡_ {A = ℕ} 0 1 = cc in
+          absurd (omega arith)
+      go (wants t j kept) e = let other = call-wants h top facts held offered t j kept e in cc
+
+-- A call, after others that took t bytes and skipped s.
+abbrev pub after : ℕ → ℕ → Call → Call
+after t s (gives taken k n f kept) = gives (t + taken) (s + k) n f kept
+after t s (wants taken k kept) = wants (t + taken) (s + k) kept
+
+-- After none it is the call itself, and what the others took and skipped adds up.
+pub after-none : (c : Call) → after 0 0 c ≡ c
+after-none (gives taken k n f kept) = simp zero-add
+after-none (wants taken k kept) = simp zero-add
+
+pub after-after : (t s u v : ℕ) (c : Call) → after t s (after u v c) ≡ after (t + u) (s + v) c
+after-after t s u v (gives taken k n f kept) = simp add-assoc
+after-after t s u v (wants taken k kept) = simp add-assoc
+
+-- A call on some bytes and on more, from the call on the first: its frame stays, and where more was wanted, a call that
+-- holds what was kept goes on.
+abbrev onward : (List ℕ → Head) → List ℕ → Call → Call
+onward h more (gives taken k n f kept) = gives taken k n f kept
+onward h more (wants taken k kept) = after taken k (call h kept more)
+
+took-again : (k : ℕ) (c : Call) → took k c ≡ after 0 k (took 0 c)
+took-again k (gives taken j n f kept) = simp zero-add
+took-again k (wants taken j kept) = simp zero-add
+
+took-after : (k t s : ℕ) (c : Call) → took k (after t s c) ≡ after (suc t) (k + s) c
+took-after k t s (gives taken j n f kept) = simp (suc-add, add-assoc)
+took-after k t s (wants taken j kept) = simp (suc-add, add-assoc)
+
+took-onward : (h : List ℕ → Head) (more : List ℕ) (k : ℕ) (c : Call) → took k (onward h more c) ≡ onward h more (took k c)
+took-onward h more k (gives taken j n f kept) = refl
+took-onward h more k (wants taken j kept) = took-after k taken j (call h kept more)
+
+module _ {h : List ℕ → Head} {top : ℕ} (facts : Facts h top) where
+  -- What is kept is undecided, so that a call which holds it looks at it in vain.
+  look-again : (bs : List ℕ) (k : ℕ) (rest : List ℕ) → look h bs ≡ waiting k rest → look h rest ≡ waiting 0 rest
+  look-again bs k rest e = look-at-wait h rest 0 (omega arith) (λ j p. absurd (omega arith)) (kept-waits h top facts bs k rest e)
+
+  none-before : (held more : List ℕ) (l : Look) → look h held ≡ l → call h held more ≡ onward h more (byLook l (gives zero) (wants zero))
+  unfolding call
+  none-before held [] (ready k n f kept) e = rw e
+  none-before held (b ∷ bs) (ready k n f kept) e = rw e
+  none-before held [] (waiting k rest) e = rw (e, look-again held k rest e) (simp add-zero)
+  none-before held (b ∷ bs) (waiting k rest) e = rw (e, look-again held k rest e) (took-again k (call h (rest ++ b ∷ []) bs))
+
+  one-before : (held : List ℕ) (b : ℕ) (bs more : List ℕ) → ((rest : List ℕ) → call h rest (bs ++ more) ≡ onward h more (call h rest bs))
+      → (l : Look) → look h held ≡ l → call h held (b ∷ bs ++ more) ≡ onward h more (byLook l (gives zero) (λ k rest. took k (call h (rest ++ b ∷ []) bs)))
+  unfolding call
+  one-before held b bs more on (ready k n f kept) e = rw e
+  one-before held b bs more on (waiting k rest) e = rw e (ap (took k) (on (rest ++ b ∷ [])) ∙ took-onward h more k (call h (rest ++ b ∷ []) bs))
+
+  -- The call on both, byte by byte of the first.
+  call-on : (more bs held : List ℕ) → call h held (bs ++ more) ≡ onward h more (call h held bs)
+  unfolding call
+  call-on more [] held = none-before held more (look h held) refl
+  call-on more (b ∷ bs) held = one-before held b bs more (call-on more bs) (look h held) refl
+
+  module _ (held bs : List ℕ) where
+    -- A frame given for a first piece is the one given for the whole.
+    pub piece-gives : (taken k n : ℕ) (f : Frame) (kept : List ℕ) → call h held bs ≡ gives taken k n f kept
+        → (more : List ℕ) → call h held (bs ++ more) ≡ gives taken k n f kept
+    piece-gives taken k n f kept e more = call-on more bs held ∙ ap (onward h more) e
+
+    -- Where the first piece is not enough, a call that holds what was kept goes on with the rest.
+    pub piece-wants : (taken k : ℕ) (kept : List ℕ) → call h held bs ≡ wants taken k kept
+        → (more : List ℕ) → call h held (bs ++ more) ≡ after taken k (call h kept more)
+    piece-wants taken k kept e more = call-on more bs held ∙ ap (onward h more) e
+
+    -- What was kept is undecided, and shorter than the longest frame.
+    pub piece-keeps : (taken k : ℕ) (kept : List ℕ) → call h held bs ≡ wants taken k kept → (h kept ≡ wait) × (length kept < top)
+    piece-keeps taken k kept e =
+        (kept-waits h top facts (held ++ bs) k kept (call-wants h top facts held bs taken k kept e .looks), wants-short h top facts held bs taken k kept e)

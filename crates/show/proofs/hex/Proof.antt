@@ -1,0 +1,53 @@
+-- `show::hex` is safe and ends. The loop's invariant: the line keeps its length. The measure is what is left of the bytes.
+-- Assumes nothing.
+use Prim.Native.Nat.{_-_}
+use mathlib.Core.Path.{_≡_}
+use borrow.Author.Needs.{needs}
+use lib.ListN.{length}
+use Rattle.show.proofs.hex.Statement.{statement}
+use Rattle.show.proofs.hex.Tie as tie
+
+abbrev Inv-loop : tie.InvT-loop
+Inv-loop line₀ at bytes place₀ i₀ line place i = length line ≡ length line₀
+
+abbrev μ-loop : tie.MeasureT-loop
+μ-loop line₀ at bytes place₀ i₀ line place i = length bytes - i
+
+loop-holds : tie.Need-loop-holds Inv-loop μ-loop
+loop-holds c = search needs
+
+shared-slice-read-hex-byte : tie.Need-shared-slice-read-hex-byte Inv-loop μ-loop
+shared-slice-read-hex-byte c = search needs
+
+hex-byte-requires : tie.Need-hex-byte-requires Inv-loop μ-loop
+hex-byte-requires c κs = search needs
+
+add-i : tie.Need-add-i Inv-loop μ-loop
+add-i c = search needs
+
+loop-less : tie.Need-loop-less Inv-loop μ-loop
+loop-less c = search needs
+
+loop-again : tie.Need-loop-again Inv-loop μ-loop
+loop-again c = search needs
+
+same-length : tie.Need-same-length Inv-loop μ-loop
+same-length c = search needs
+
+returns : tie.Need-returns Inv-loop μ-loop
+returns c = search needs
+
+pub hex-spec : {M : Type 1} → statement M
+hex-spec =
+    tie.close
+    (tie.spec
+    Inv-loop
+    μ-loop
+    loop-holds
+    shared-slice-read-hex-byte
+    hex-byte-requires
+    add-i
+    loop-less
+    loop-again
+    same-length
+    returns)

@@ -1,0 +1,131 @@
+// The values of each record, in the order of document 01.
+use crate::number;
+use crate::spaced;
+use crate::text;
+use rules::Sentence02;
+use rules::Sentence03;
+use rules::Sentence05;
+use rules::Status;
+
+// Each number behind a space.
+fn numbers(line: &mut [u8], at: usize, numbers: &[u32]) -> usize {
+    let mut place = at;
+    let mut i = 0;
+    while i < numbers.len() {
+        place = value(line, place, numbers[i]);
+        i += 1;
+    }
+    place
+}
+
+fn value(line: &mut [u8], at: usize, n: u32) -> usize {
+    spaced(line, at, n as u64)
+}
+
+fn letter(line: &mut [u8], at: usize, b: u8) -> usize {
+    let t = [b' ', b];
+    text(line, at, &t)
+}
+
+pub(crate) fn status(line: &mut [u8], at: usize, s: Status) -> usize {
+    let place = settings(line, at, s);
+    let place = antennas(line, place, s);
+    let meters = [
+        s.watts,
+        s.swratu,
+        s.swrant,
+        s.volts,
+        s.amperes,
+        s.upper,
+        s.lower,
+        s.combiner,
+    ];
+    let place = numbers(line, place, &meters);
+    let place = letter(line, place, s.warning);
+    letter(line, place, s.alarm)
+}
+
+// Fields 1 to 6.
+fn settings(line: &mut [u8], at: usize, s: Status) -> usize {
+    let place = value(line, at, s.id as u32);
+    let letters = [b'K', b' ', s.state, b' ', s.direction, b' ', s.bank];
+    let place = text(line, place, &letters);
+    let place = value(line, place, s.input as u32);
+    value(line, place, s.band as u32)
+}
+
+// Fields 7 to 9.
+fn antennas(line: &mut [u8], at: usize, s: Status) -> usize {
+    let place = value(line, at, s.transmit as u32);
+    let tuner = [s.tuner];
+    let place = text(line, place, &tuner);
+    let place = value(line, place, s.receive as u32);
+    letter(line, place, s.level)
+}
+
+pub(crate) fn sentence02(line: &mut [u8], at: usize, r: Sentence02) -> usize {
+    let row = [
+        r.pfwd,
+        r.swr,
+        r.pin,
+        r.vp,
+        r.ip,
+        r.gain,
+        r.vg,
+        r.ig,
+        r.band,
+        r.state,
+        r.fault,
+        r.key,
+        r.pep,
+    ];
+    numbers(line, at, &row)
+}
+
+pub(crate) fn sentence03(line: &mut [u8], at: usize, r: Sentence03) -> usize {
+    let row = [
+        r.v5,
+        r.v12,
+        r.v24,
+        r.m12,
+        r.v40,
+        r.acline,
+        r.mbstatus,
+        r.mbtap,
+    ];
+    let place = numbers(line, at, &row);
+    temperature(line, place, r.temp)
+}
+
+// A temperature in tenths, with a minus where it is below zero.
+fn temperature(line: &mut [u8], at: usize, z: i32) -> usize {
+    if z < 0 {
+        let place = text(line, at, b" -");
+        return number(line, place, size(z));
+    }
+    spaced(line, at, size(z))
+}
+
+// How far from zero.
+fn size(z: i32) -> u64 {
+    if z < 0 {
+        return (0 - z as i64) as u64;
+    }
+    z as u64
+}
+
+pub(crate) fn sentence05(line: &mut [u8], at: usize, r: Sentence05) -> usize {
+    let nibbles = [
+        r.band as u32,
+        r.segment as u32,
+        r.memory as u32,
+        r.antenna as u32,
+        r.meter as u32,
+        r.control as u32,
+        r.options as u32,
+        r.state as u32,
+    ];
+    let place = numbers(line, at, &nibbles);
+    let rest = [r.wtime as u32, r.tcmd as u32, r.lcmd as u32];
+    numbers(line, place, &rest)
+}

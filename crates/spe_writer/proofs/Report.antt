@@ -1,0 +1,57 @@
+-- The report's parts: how long each is, and that they are together the report.
+-- The texts have their widths whatever the record holds. Assumes nothing.
+use Prim.Native.Nat.{ℕ}
+use Prim.Native.Char.{code}
+use mathlib.Core.Path.{_≡_, refl, ap, _∙_}
+use mathlib.Core.List.{List, [], _∷_, _++_, append-assoc}
+use native.Mathlib.Omega.{arith}
+use lib.ListN.{length, take, drop, length-append}
+use Rattle.rules.specs.Sentences.{commas}
+use Rattle.rules.specs.Status.{statusTexts, statusFrame, statusBytes, joined}
+use Rattle.rules.specs.declared.Status.{Status}
+use Rattle.laws.proofs.Numbers.{zeros-length, spaces-length, point-length}
+use Rattle.promises.proofs.Report.{texts-length}
+use Rattle.spe_writer.specs.Fields.{check}
+
+-- texts behind commas, and more of them behind
+commas-append : (ts us : List (List ℕ)) → commas ts ++ commas us ≡ commas (ts ++ us)
+unfolding commas
+commas-append [] us = refl
+commas-append (t ∷ ts) us = ap (λ (bs : List ℕ). code "," ∷ bs) (append-assoc t (commas ts) (commas us) ∙ ap (λ (bs : List ℕ). t ++ bs) (commas-append ts us))
+
+joined-append : (ts us : List (List ℕ)) → commas ts ++ joined us ≡ joined (ts ++ us)
+unfolding commas joined
+joined-append [] us = refl
+joined-append (t ∷ ts) us = ap (λ (bs : List ℕ). code "," ∷ bs) (append-assoc t (commas ts) (joined us) ∙ ap (λ (bs : List ℕ). t ++ bs) (joined-append ts us))
+
+module _ (s : Status) where
+  pub settings-length : length (commas (take 5 (statusTexts s))) ≡ 12
+  unfolding commas statusTexts
+  settings-length = simp (length-append, zeros-length)
+
+  pub antennas-length : length (commas (take 4 (drop 5 (statusTexts s)))) ≡ 11
+  unfolding commas statusTexts
+  antennas-length = simp (length-append, zeros-length)
+
+  pub readings-length : length (commas (take 5 (drop 9 (statusTexts s)))) ≡ 27
+  unfolding commas statusTexts
+  readings-length = simp (length-append, zeros-length, point-length)
+
+  pub state-length : length (joined (drop 14 (statusTexts s))) ≡ 17
+  unfolding joined statusTexts
+  state-length = simp (length-append, spaces-length)
+
+  pub parts-joined : commas (take 5 (statusTexts s)) ++ commas (take 4 (drop 5 (statusTexts s))) ++ commas (take 5 (drop 9 (statusTexts s)))
+      ++ joined (drop 14 (statusTexts s)) ≡ joined (statusTexts s)
+  unfolding statusTexts
+  parts-joined =
+      let a = take 5 (statusTexts s) in
+      let b = take 4 (drop 5 (statusTexts s)) in
+      let d = take 5 (drop 9 (statusTexts s)) in
+      rw (commas-append a b, commas-append (a ++ b) d) (joined-append (a ++ b ++ d) (drop 14 (statusTexts s)))
+
+  pub report-length : length (statusBytes s) ≡ 75
+  unfolding statusFrame
+  report-length =
+      let d = joined (statusTexts s) in
+      omega (arith, length-append d (check d), texts-length s)

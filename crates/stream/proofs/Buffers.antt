@@ -1,0 +1,41 @@
+-- Bytes laid at the front of zeros, and two rows of bytes one behind the other.
+-- Assumes nothing.
+use Prim.Native.Nat.{ℕ, zero, suc, _+_, _-_, _≤_}
+use mathlib.Core.Path.{_≡_, sym, ap, _∙_}
+use mathlib.Core.List.{List, _++_}
+use native.Mathlib.Nat.{zero-add, suc-sub-suc, sub-zero}
+use native.Mathlib.Omega.{arith}
+use lib.ListN.{length, take, drop, replicate, length-append, length-replicate}
+use lib.Seq.{take-at}
+use Rattle.pens.specs.Pens.{laid}
+use Rattle.pens.proofs.Laid.{laid-front, laid-behind, length-laid}
+use Rattle.stream.specs.Turns.{filled, Joined}
+
+abbrev pub zeros : ℕ → List ℕ
+zeros n = replicate n 0
+
+length-zeros : (n : ℕ) → length (zeros n) ≡ n
+length-zeros n = length-replicate n 0
+
+drop-zeros : (k n : ℕ) → drop k (zeros n) ≡ zeros (n - k)
+drop-zeros zero n = ap zeros (sym (sub-zero n))
+drop-zeros (suc k) zero = let none : 0 ≡ 0 - suc k = omega arith in ap zeros none
+drop-zeros (suc k) (suc n) = drop-zeros k n ∙ ap zeros (sym (suc-sub-suc n k))
+
+-- bytes laid at the front of the held places
+pub fills : (bs : List ℕ) → length bs ≤ 133 → laid 0 bs (zeros 133) ≡ filled bs
+fills bs h = laid-front bs (zeros 133) (omega (arith, length-zeros 133)) ∙ ap (λ (l : List ℕ). bs ++ l) (drop-zeros (length bs) 133)
+
+-- held bytes and a piece laid one behind the other
+pub joins : (held piece : List ℕ) → length held ≤ 133 → length piece ≤ 133 → Joined held piece (laid (length held) piece (laid 0 held (zeros 266)))
+joins held piece h k =
+    let room : length held + length piece ≤ length (zeros 266) = omega (arith, length-zeros 266) in
+    let both : laid (length held) piece (laid 0 held (zeros 266)) ≡ (held ++ piece) ++ drop (length (held ++ piece)) (zeros 266) =
+    ap (λ (a : ℕ). laid a piece (laid 0 held (zeros 266))) (sym (zero-add (length held)))
+    ∙ laid-behind 0 held piece (zeros 266) (omega (arith, room))
+    ∙ laid-front (held ++ piece) (zeros 266) (omega (arith, room, length-append held piece)) in
+    record {
+      front = ap (take (length held + length piece)) both
+          ∙ take-at (held ++ piece) (drop (length (held ++ piece)) (zeros 266)) (length held + length piece) (length-append held piece);
+      size = length-laid (length held) piece (laid 0 held (zeros 266)) ∙ length-laid 0 held (zeros 266) ∙ length-zeros 266;
+    }

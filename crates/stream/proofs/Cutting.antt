@@ -1,0 +1,111 @@
+-- What a search of a buffer says of the call that held its first bytes and was offered the others: more is wanted, or a
+-- frame was ready with the byte that settled the last of the starts up to it.
+-- Assumes nothing.
+use Prim.Native.Nat.{ℕ, zero, suc, max, _+_, _-_, _≤_, _<_}
+use mathlib.Core.Path.{_≡_, refl, sym, ap, _∙_}
+use mathlib.Core.List.{List, [], _∷_, _++_}
+use native.Mathlib.Nat.{sub-zero, suc-sub-suc, le-of-suc-le-suc}
+use native.Mathlib.Omega.{arith}
+use lib.ListN.{length, take, drop, length-drop, take-append-drop}
+use lib.Seq.{take-all, take-nil, length-take-le}
+use Rattle.rules.specs.Bytes.{part}
+use Rattle.stream_rules.specs.Heads.{longest, head}
+use Rattle.stream_rules.specs.Rule.{Look, ready, waiting, look, byLook, wants, call}
+use Rattle.stream_rules.specs.Settled.{settled, reach}
+use Rattle.head_laws.proofs.Heads.{GoodHead, good-head}
+use Rattle.stream_laws.proofs.Looks.{FrameFirst, OpenFirst, look-ready, look-waiting}
+use Rattle.seek_laws.proofs.Families.{facts}
+use Rattle.seek_laws.proofs.Calls.{call-is-wants, piece-keeps}
+use Rattle.seek_laws.proofs.Jump.{Jump, jump, upTo}
+use Rattle.seek.specs.Sought.{soughtIn}
+use Rattle.seek.specs.declared.Hit.{Hit}
+use Rattle.seek.specs.declared.Sought.the-variants.{Ready, Waiting}
+use Rattle.stream.specs.Turns.{stepFrom, keptOf, callOn, Cuts}
+use Rattle.stream.specs.declared.pieces.Step.the-variants.{Ready as StepReady, Waiting as StepWaiting}
+
+-- a part, cut at its end first
+drop-take : (a p : ℕ) (l : List ℕ) → a ≤ p → drop a (take p l) ≡ take (p - a) (drop a l)
+drop-take zero p l h = ap (λ (n : ℕ). take n l) (sym (sub-zero p))
+drop-take (suc a) zero l h = absurd (omega arith)
+drop-take (suc a) (suc p) [] h = sym (take-nil (suc p - suc a))
+drop-take (suc a) (suc p) (x ∷ l) h = drop-take a p l (le-of-suc-le-suc h) ∙ ap (λ (n : ℕ). take n (drop a l)) (sym (suc-sub-suc p a))
+
+module _ (family : ℕ) (work : List ℕ) where
+  -- what a search answers is what a look finds
+  pub waits : (at : ℕ) → soughtIn family work ≡ Waiting at → (rest : List ℕ) × (look (head family) work ≡ waiting at rest)
+  unfolding soughtIn
+  waits at e = case (look (head family) work) refl e
+    where
+      case : (l : Look) → look (head family) work ≡ l
+          → byLook l (λ k n f behind. Ready (record { start = k; length = n; reach = reach family k work; frame = f })) (λ k rest. Waiting k) ≡ Waiting at
+          → (rest : List ℕ) × (look (head family) work ≡ waiting at rest)
+      case (waiting k rest) is q = let same : k ≡ at = cc in (rest, is ∙ ap (λ (j : ℕ). waiting j rest) same)
+      case (ready k n f behind) is q = let z : _≡_ {A = ℕ} 0 1 = cc in absurd (omega arith)
+
+  pub finds : (hit : Hit) → soughtIn family work ≡ Ready hit
+      → (behind : List ℕ) × (look (head family) work ≡ ready (hit .start) (hit .length) (hit .frame) behind) × (hit .reach ≡ reach family (hit .start) work)
+  unfolding soughtIn
+  finds hit e = case (look (head family) work) refl e
+    where
+      case : (l : Look) → look (head family) work ≡ l
+          → byLook l (λ k n f behind. Ready (record { start = k; length = n; reach = reach family k work; frame = f })) (λ k rest. Waiting k) ≡ Ready hit
+          → (behind : List ℕ) × (look (head family) work ≡ ready (hit .start) (hit .length) (hit .frame) behind) × (hit .reach ≡ reach family (hit .start) work)
+      case (waiting k rest) is q = let z : _≡_ {A = ℕ} 0 1 = cc in absurd (omega arith)
+      case (ready k n f behind) is q =
+          let same : record { start = k; length = n; reach = reach family k work; frame = f } ≡ hit = cc in (
+            behind,
+            is ∙ (λ i. ready (same i .start) (same i .length) (same i .frame) behind),
+            sym (ap (λ (x : Hit). x .reach) same) ∙ ap (λ (x : Hit). reach family (x .start) work) same,
+          )
+
+module _ (family : ℕ) (work : List ℕ) (count t s : ℕ) (there : count ≤ length work) (few : count < longest family) where
+  both : take count work ++ drop count work ≡ work
+  both = take-append-drop count work
+
+  size : length (take count work) ≡ count
+  size = length-take-le count work there
+
+  pub cut-waiting : (at : ℕ) → soughtIn family work ≡ Waiting at
+      → Cuts family work count t s (record { step = StepWaiting (t + (length work - count)) (s + at); from = at; to = length work })
+  cut-waiting at e =
+      let found = waits family work at e in
+      let here : look (head family) (take count work ++ drop count work) ≡ waiting at (found .0) = ap (look (head family)) both ∙ found .1 in
+      let is : callOn family work count ≡ wants (length (drop count work)) at (found .0) = call-is-wants (facts family) (take count work) (drop count work) at (found .0) here in
+      let open-start : OpenFirst (head family) work at (found .0) = look-waiting (head family) work at (found .0) (found .1) in
+      let short = piece-keeps (facts family) (take count work) (drop count work) (length (drop count work)) at (found .0) is .1 in
+      let all : take (length work - at) (drop at work) ≡ drop at work = take-all (length work - at) (drop at work) (omega (arith, length-drop at work)) in
+      record {
+        says = ap (λ (n : ℕ). StepWaiting (t + n) (s + at)) (sym (length-drop count work)) ∙ ap (stepFrom t s) (sym is);
+        keeps = all ∙ sym (open-start .rest) ∙ ap keptOf (sym is);
+        order = open-start .place;
+        within = omega arith;
+        short = omega (arith, short, ap length (open-start .rest), length-drop at work);
+      }
+
+  pub cut-ready : (hit : Hit) (to : ℕ) → soughtIn family work ≡ Ready hit → to ≡ max (max (hit .reach) (hit .start + hit .length)) count
+      → Cuts family work count t s (record {
+        step = StepReady (record { taken = t + (to - count); skipped = s + hit .start; length = hit .length; frame = hit .frame });
+        from = hit .start + hit .length;
+        to = to;
+      })
+  unfolding reach
+  cut-ready hit to e up =
+      let k = hit .start in
+      let n = hit .length in
+      let f = hit .frame in
+      let found = finds family work hit e in
+      let first : FrameFirst (head family) work k n f (found .0) = look-ready (head family) work k n f (found .0) (found .1) in
+      let whole : GoodHead family (drop k work) n f = good-head family (drop k work) n f (first .here) in
+      let here : look (head family) (take count work ++ drop count work) ≡ ready k n f (found .0) = ap (look (head family)) both ∙ found .1 in
+      let reaches : reach family (suc k) (take count work ++ drop count work) ≡ max (reach family k work) (k + n) =
+      ap (λ (l : List ℕ). max (reach family k l) (k + settled family (drop k l))) both ∙ ap (λ (d : ℕ). max (reach family k work) (k + d)) (whole .settles) in
+      let up-to : to ≡ upTo family (take count work) (drop count work) k = omega (arith, up, found .2, reaches, size) in
+      let j : Jump family (take count work) (drop count work) k n f to = jump family (take count work) (drop count work) k n f (found .0) here to up-to in
+      let there-is : length (take count work ++ drop count work) ≡ length work = ap length both in
+      record {
+        says = ap (λ (c : ℕ). StepReady (record { taken = t + (to - c); skipped = s + k; length = n; frame = f })) (sym size) ∙ ap (stepFrom t s) (sym (j .answer));
+        keeps = sym (drop-take (k + n) to work (j .whole)) ∙ ap (λ (l : List ℕ). drop (k + n) (take to l)) (sym both) ∙ ap keptOf (sym (j .answer));
+        order = j .whole;
+        within = omega (arith, j .there, there-is);
+        short = j .short (omega (arith, size));
+      }

@@ -1,0 +1,95 @@
+-- `stream::answered` meets its contract: the counts of each arm go on by wrapping adds, so the answer is that of the turn.
+-- Assumes nothing.
+use borrow.Author.Needs.{needs}
+use native.Mathlib.Omega.{arith}
+use mathlib.Core.Path.{subst}
+use Prim.Native.Nat.{_+_}
+use Rattle.stream.specs.Turns.{StepFits}
+use Rattle.stream.proofs.Counts.{counted-on, of-ready, of-waiting}
+use Rattle.stream.proofs.answered.Statement.{statement}
+use Rattle.stream.proofs.answered.Tie as tie
+
+cast-count : tie.Need-cast-count
+cast-count c = search needs
+
+enum-known-step : tie.Need-enum-known-step
+enum-known-step c = search needs
+
+low-requires : tie.Need-low-requires
+low-requires c κs = search needs
+
+wrapping-add-u32-requires : tie.Need-wrapping-add-u32-requires
+wrapping-add-u32-requires c κs = search needs
+
+low-requires-2 : tie.Need-low-requires-2
+low-requires-2 c κs = search needs
+
+wrapping-add-u32-requires-2 : tie.Need-wrapping-add-u32-requires-2
+wrapping-add-u32-requires-2 c κs = search needs
+
+add-low : tie.Need-add-low
+add-low c =
+    let step = c .before .before .before .before .before .before .step in
+    let fits = subst StepFits (step .given .1) (c .before .before .before .before .before .before .before .before .before .before .pre .1) in
+    omega (arith, fits)
+
+low-requires-3 : tie.Need-low-requires-3
+low-requires-3 c κs = search needs
+
+wrapping-add-u32-requires-3 : tie.Need-wrapping-add-u32-requires-3
+wrapping-add-u32-requires-3 c κs = search needs
+
+enum-known-step-2 : tie.Need-enum-known-step-2
+enum-known-step-2 c = search needs
+
+low-requires-4 : tie.Need-low-requires-4
+low-requires-4 c κs = search needs
+
+wrapping-add-u32-requires-4 : tie.Need-wrapping-add-u32-requires-4
+wrapping-add-u32-requires-4 c κs = search needs
+
+low-requires-5 : tie.Need-low-requires-5
+low-requires-5 c κs = search needs
+
+wrapping-add-u32-requires-5 : tie.Need-wrapping-add-u32-requires-5
+wrapping-add-u32-requires-5 c κs = search needs
+
+returns : tie.Need-returns
+returns c =
+    let a = c .before .before .before .before .before .before .before .before .before .before .before .before .args in
+    let step = c .before .before .before .before .before .before .before .before .step in
+    let got = step .given .0 .0 in
+    of-ready (a .r) (a .turn) got (step .given .1) _ _ _
+    (counted-on (a .r .at) (got .skipped + got .length) _ _ (c .before .low3 .ensures) (c .wrapping-add-u323 .ensures))
+    (counted-on (a .r .at) (got .skipped) _ _ (c .before .before .before .before .before .before .low .ensures) (c .before .before .before .before .before .wrapping-add-u32 .ensures))
+    (counted-on (a .r .skipped) (got .skipped) _ _ (c .before .before .before .before .low2 .ensures) (c .before .before .before .wrapping-add-u322 .ensures))
+
+returns-2 : tie.Need-returns-2
+returns-2 c =
+    let a = c .before .before .before .before .before .before .before .before .before .args in
+    let step = c .before .before .before .before .before .step2 in
+    let skipped = step .given .0 .1 .0 in
+    of-waiting (a .r) (a .turn) (step .given .0 .0) skipped (step .given .1) _ _
+    (counted-on (a .r .at) skipped _ _ (c .before .before .before .low4 .ensures) (c .before .before .wrapping-add-u324 .ensures))
+    (counted-on (a .r .skipped) skipped _ _ (c .before .low5 .ensures) (c .wrapping-add-u325 .ensures))
+
+pub answered-spec : {M : Type 1} → statement M
+answered-spec =
+    tie.close
+    (tie.spec
+    cast-count
+    enum-known-step
+    low-requires
+    wrapping-add-u32-requires
+    low-requires-2
+    wrapping-add-u32-requires-2
+    add-low
+    low-requires-3
+    wrapping-add-u32-requires-3
+    enum-known-step-2
+    low-requires-4
+    wrapping-add-u32-requires-4
+    low-requires-5
+    wrapping-add-u32-requires-5
+    returns
+    returns-2)

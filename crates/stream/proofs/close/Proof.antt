@@ -1,0 +1,85 @@
+-- `stream::close` meets its contract: its two tests are the refusals, in their order.
+-- Assumes nothing.
+use Prim.Native.Nat.{_-_, _≤_}
+use mathlib.Core.Path.{_≡_, sym, _∙_}
+use mathlib.Core.Bool.{true}
+use native.Mathlib.Omega.{arith}
+use borrow.Author.Needs.{needs}
+use borrow.Author.Tests.{not-true, not-false}
+use lib.ListN.{length, length-take}
+use Rattle.stream_rules.specs.Heads.{isFamily, head}
+use Rattle.stream_rules.specs.Streams.{heldOf, holds}
+use Rattle.stream_rules.specs.declared.Outcome.the-variants.{Accepted}
+use Rattle.stream_laws.proofs.Facts.{top-above}
+use Rattle.seek_laws.proofs.Families.{facts}
+use Rattle.stream_laws.proofs.States.{longest-fits, shut-1, shut-6, shut-call}
+use Rattle.stream.proofs.close.Statement.{statement}
+use Rattle.stream.proofs.close.Tie as tie
+
+slice-aggregate-one-of : tie.Need-slice-aggregate-one-of
+slice-aggregate-one-of c = search needs
+
+one-of-requires : tie.Need-one-of-requires
+one-of-requires c κs = search needs
+
+-- where the two tests have been passed
+a-family : (c : tie.Else1) → isFamily (c .before .before .before .args .r .family) ≡ true
+a-family c = sym (c .before .one-of .ensures) ∙ not-false _ (c .if1 .left)
+
+room : (c : tie.Else2) → c .before .before .before .before .before .before .args .r .count ≤ holds (c .before .before .before .before .before .before .args .r .family)
+room c = omega (arith, c .if2 .left, c .before .longest-frame .ensures)
+
+returns : tie.Need-returns
+returns c = sym (shut-1 (c .before .before .before .args .r) (sym (c .before .one-of .ensures) ∙ not-true _ (c .if1 .taken)))
+
+cast-count : tie.Need-cast-count
+cast-count c = search needs
+
+longest-frame-requires : tie.Need-longest-frame-requires
+longest-frame-requires c κs = search needs
+
+returns-2 : tie.Need-returns-2
+returns-2 c = sym (shut-6 (c .before .before .before .before .before .before .args .r) (a-family (c .before .before .before)) (omega (arith, c .if2 .taken, c .before .longest-frame .ensures, top-above (head (c .before .before .before .before .before .before .args .r .family)) _ (facts (c .before .before .before .before .before .before .args .r .family)))))
+
+slice-aggregate-keep : tie.Need-slice-aggregate-keep
+slice-aggregate-keep c = search needs
+
+keep-requires : tie.Need-keep-requires
+keep-requires c κs =
+    let start = c .before .before .before .before .before .before .before .before in
+    let r = start .args .r in
+    let places : length (r .held) ≡ 133 = sym (slice-aggregate-keep c) in
+    (omega (arith, room (c .before .before), longest-fits (r .family), places), omega (arith, room (c .before .before), longest-fits (r .family)))
+
+returns-3 : tie.Need-returns-3
+returns-3 c =
+    let start = c .before .before .before .before .before .before .before .before .before in
+    let r = start .args .r in
+    let places : length (r .held) ≡ 133 = sym (slice-aggregate-keep (c .before)) in
+    let size : length (heldOf r) ≡ r .count = length-take (r .count) (r .held) ∙ omega (arith, room (c .before .before .before), longest-fits (r .family), places) in
+    (λ i. record {
+      reader = record {
+        family = r .family;
+        closed = 1;
+        count = sym size i;
+        held = c .keep .ensures i;
+        at = r .at;
+        skipped = r .skipped;
+      };
+      outcome = Accepted;
+    })
+    ∙ sym (shut-call r (a-family (c .before .before .before .before .before .before)) (room (c .before .before .before)))
+
+pub close-spec : {M : Type 1} → statement M
+close-spec =
+    tie.close
+    (tie.spec
+    slice-aggregate-one-of
+    one-of-requires
+    returns
+    cast-count
+    longest-frame-requires
+    returns-2
+    slice-aggregate-keep
+    keep-requires
+    returns-3)

@@ -1,0 +1,80 @@
+-- What a call has done after some pieces of what it was offered, in the words of the rules.
+use Prim.Native.Nat.{ℕ, _+_, _-_, _^_, _≤_, _<_}
+use mathlib.Core.Path.{_≡_}
+use mathlib.Core.List.{List, [], _++_}
+use lib.ListN.{length, take, drop, replicate}
+use Rattle.rules.specs.Bytes.{part}
+use Rattle.stream_rules.specs.Heads.{longest, head}
+use Rattle.stream_rules.specs.Rule.{Call, gives, wants, call}
+use Rattle.stream_rules.specs.Streams.{wrap, goOn}
+use Rattle.stream_rules.specs.declared.Reader.{Reader}
+use Rattle.stream_rules.specs.declared.Answer.the-variants.{Ready as FrameReady, More, Done}
+use Rattle.stream_rules.specs.declared.Fed.{Fed}
+use Rattle.stream.specs.declared.pieces.Step.{Step}
+use Rattle.stream.specs.declared.pieces.Step.the-variants.{Ready, Waiting}
+use Rattle.stream.specs.declared.pieces.Cut.{Cut}
+use Rattle.stream.specs.declared.pieces.Turn.{Turn}
+
+-- bytes in the held places, with zeros behind them
+abbrev pub filled : List ℕ → List ℕ
+filled bytes = bytes ++ replicate (133 - length bytes) 0
+
+-- the held bytes and a piece, at the front of the buffer
+pub record Joined (held piece work : List ℕ) : Type 0 where
+  pub front : take (length held + length piece) work ≡ held ++ piece
+  pub size : length work ≡ 266
+
+-- what a call says, behind t bytes taken and s skipped before it, and what it keeps
+abbrev pub stepFrom : ℕ → ℕ → Call → Step
+stepFrom t s (gives taken k n f kept) = Ready (record { taken = t + taken; skipped = s + k; length = n; frame = f })
+stepFrom t s (wants taken k kept) = Waiting (t + taken) (s + k)
+
+abbrev pub keptOf : Call → List ℕ
+keptOf (gives taken k n f kept) = kept
+keptOf (wants taken k kept) = kept
+
+-- the call on a buffer whose first bytes were held
+abbrev pub callOn : ℕ → List ℕ → ℕ → Call
+callOn family work count = call (head family) (take count work) (drop count work)
+
+pub record Cuts (family : ℕ) (work : List ℕ) (count t s : ℕ) (c : Cut) : Type 0 where
+  pub says : c .step ≡ stepFrom t s (callOn family work count)
+  pub keeps : part (c .from) (c .to - c .from) work ≡ keptOf (callOn family work count)
+  pub order : c .from ≤ c .to
+  pub within : c .to ≤ length work
+  pub short : c .to - c .from < longest family
+
+abbrev pub turnedFrom : ℕ → ℕ → Call → Turn
+turnedFrom t s c = record { step = stepFrom t s c; held = filled (keptOf c); count = length (keptOf c) }
+
+abbrev pub turned : Call → Turn
+turned c = turnedFrom 0 0 c
+
+-- the sums of a step can be made
+abbrev pub StepFits : Step → Type 0
+StepFits (Ready g) = g .skipped + g .length < 2 ^ 64
+StepFits (Waiting t s) = Unit
+
+-- the reader with these places and counts, and the answer of a turn
+abbrev pub moved : Reader → ℕ → List ℕ → ℕ → ℕ → Reader
+moved r count held at skipped = record { family = r .family; closed = r .closed; count = count; held = held; at = at; skipped = skipped }
+
+abbrev pub fedStep : Reader → ℕ → List ℕ → Step → Fed
+fedStep r count held (Ready g) = record {
+  reader = moved r count held (wrap (r .at + (g .skipped + g .length))) 0;
+  answer = FrameReady (record {
+    taken = g .taken;
+    start = wrap (r .at + g .skipped);
+    skipped = wrap (r .skipped + g .skipped);
+    length = g .length;
+    frame = g .frame;
+  });
+}
+fedStep r count held (Waiting t s) = record { reader = moved r count held (wrap (r .at + s)) (wrap (r .skipped + s)); answer = More t }
+
+abbrev pub fedBy : Reader → Turn → Fed
+fedBy r turn = fedStep r (turn .count) (turn .held) (turn .step)
+
+-- done, with these bytes skipped
+abbrev pub doneWith : Reader → ℕ → Fed
+doneWith r skipped = goOn r skipped [] (Done 0)

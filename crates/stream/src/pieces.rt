@@ -1,0 +1,158 @@
+// A call piece by piece: what is held and the next bytes offered stand together in a buffer, which is
+// searched as a whole.
+use leaves::text;
+use pens::put_bytes;
+use rules::Frame;
+use seek::Hit;
+use seek::Sought;
+use seek::seek;
+ghost use mathlib.Core.Path.{_≡_};
+ghost use Prim.Native.Nat.{max, _+_, _-_, _^_, _≤_, _<_};
+ghost use lib.ListN.{length, take, drop};
+ghost use Rattle.rules.specs.Bytes.{part};
+ghost use Rattle.stream_rules.specs.Heads.{longest, head};
+ghost use Rattle.stream_rules.specs.Rule.{call};
+ghost use Rattle.stream.specs.Turns.{filled, turnedFrom, turned, Cuts, Joined};
+
+// A frame that is ready: the bytes taken, the bytes skipped, its length, and what it says.
+pub struct Got {
+    pub taken: usize,
+    pub skipped: usize,
+    pub length: usize,
+    pub frame: Frame,
+}
+
+// A frame, or the bytes taken and skipped without one.
+pub enum Step {
+    Ready(Got),
+    Waiting(usize, usize),
+}
+
+// A step, and the part of the buffer that is kept.
+pub struct Cut {
+    pub step: Step,
+    pub from: usize,
+    pub to: usize,
+}
+
+// A step, and the bytes that are kept.
+pub struct Turn {
+    pub step: Step,
+    pub held: [u8; 133],
+    pub count: usize,
+}
+
+// The longest frame of a family.
+pub(crate) fn longest_frame(family: u8) -> usize
+    ensures { λ r. ⌜ r ≡ longest family ⌝ }
+{
+    if family == 1 {
+        return 75;
+    }
+    if family == 2 {
+        return 134;
+    }
+    6
+}
+
+fn further(a: usize, b: usize) -> usize
+    ensures { λ r. ⌜ r ≡ max a b ⌝ }
+{
+    if a < b { b } else { a }
+}
+
+// Some bytes of a slice in the held places, with zeros behind them.
+pub(crate) fn keep(s: &[u8], a: usize, n: usize) -> [u8; 133]
+    requires { ⌜ (a + n ≤ length (now s)) × (n ≤ 133) ⌝ }
+    ensures { λ r. ⌜ r ≡ filled (part a n (now (s .entry))) ⌝ }
+{
+    let mut held = [0u8; 133];
+    put_bytes(&mut held, 0, text(s, a, n));
+    held
+}
+
+// The held bytes and those of a piece, one behind the other.
+fn join(held: &[u8], piece: &[u8]) -> [u8; 266]
+    requires { ⌜ (length (now held) ≤ 133) × (length (now piece) ≤ 133) ⌝ }
+    ensures { λ r. ⌜ Joined (now (held .entry)) (now (piece .entry)) r ⌝ }
+{
+    let mut work = [0u8; 266];
+    put_bytes(&mut work, 0, held);
+    put_bytes(&mut work, held.len(), piece);
+    work
+}
+
+// What a call does with a buffer whose first bytes it held.
+fn search(family: u8, work: &[u8], count: usize, taken: usize, skipped: usize) -> Cut
+    requires { ⌜ (count ≤ length (now work)) × (count < longest family) ⌝ }
+    requires { ⌜ (length (now work) ≤ 266) × (taken + 266 < 2 ^ 64) × (skipped + 266 < 2 ^ 64) ⌝ }
+    ensures { λ r. ⌜ Cuts family (now (work .entry)) count taken skipped r ⌝ }
+{
+    match seek(family, work) {
+        Sought::Waiting(at) => Cut {
+            step: Step::Waiting(taken + (work.len() - count), skipped + at),
+            from: at,
+            to: work.len(),
+        },
+        Sought::Ready(hit) => {
+            let frame = hit.frame;
+            let behind = hit.start + hit.length;
+            let to = further(further(hit.reach, behind), count);
+            let got = Got {
+                taken: taken + (to - count),
+                skipped: skipped + hit.start,
+                length: hit.length,
+                frame,
+            };
+            Cut {
+                step: Step::Ready(got),
+                from: behind,
+                to,
+            }
+        }
+    }
+}
+
+// A call on the next piece, behind bytes taken and skipped before it.
+fn take_piece(family: u8, held: &[u8], piece: &[u8], taken: usize, skipped: usize) -> Turn
+    requires { ⌜ (length (now held) < longest family) × (length (now held) ≤ 133) × (length (now piece) ≤ 133) ⌝ }
+    requires { ⌜ (taken + 266 < 2 ^ 64) × (skipped + 266 < 2 ^ 64) ⌝ }
+    ensures { λ r. ⌜ r ≡ turnedFrom taken skipped (call (head family) (now (held .entry)) (now (piece .entry))) ⌝ }
+{
+    let work = join(held, piece);
+    let bytes = text(&work, 0, held.len() + piece.len());
+    let c = search(family, bytes, held.len(), taken, skipped);
+    let step = c.step;
+    let kept = keep(bytes, c.from, c.to - c.from);
+    Turn {
+        step,
+        held: kept,
+        count: c.to - c.from,
+    }
+}
+
+// A call on all that is offered, piece by piece.
+pub(crate) fn run(family: u8, held: &[u8], offered: &[u8]) -> Turn
+    requires { ⌜ (length (now held) < longest family) × (length (now held) ≤ 133) ⌝ }
+    ensures { λ r. ⌜ r ≡ turned (call (head family) (now (held .entry)) (now (offered .entry))) ⌝ }
+{
+    let mut turn = take_piece(family, held, text(offered, 0, 133), 0, 0);
+    let mut done = 133;
+    while done < offered.len() {
+        let step = turn.step;
+        let Step::Waiting(taken, skipped) = step else {
+            return turn;
+        };
+        let kept = turn.held;
+        let count = turn.count;
+        turn = take_piece(
+            family,
+            text(&kept, 0, count),
+            text(offered, done, 133),
+            taken,
+            skipped,
+        );
+        done += 133;
+    }
+    turn
+}

@@ -1,0 +1,331 @@
+-- The states of a reader, and its calls on any state: what refuses, what the unused places are, and that what a call does
+-- to a state follows from the bytes that it holds. Each goes by the clauses of `fed` and `shut`. Assumes nothing.
+use Prim.Native.Nat.{ℕ, suc, _+_, _-_, _^_, _≤_, _<_}
+use mathlib.Core.Path.{_≡_, refl, sym, ap, ap₂, _∙_}
+use mathlib.Core.Bool.{Bool, true, false, cond, true≢false, false≢true}
+use mathlib.Core.List.{List, [], _∷_, _++_}
+use native.Mathlib.Nat.{add-zero, mod-add-mod}
+use native.Mathlib.Omega.{arith}
+use borrow.Author.Tests.{le-leb, lt-leb, leb-true, leb-false, eq-eqb, ne-eqb, eqb-true, eqb-false}
+use lib.Dec.{eqb, leb}
+use lib.ListN.{length, replicate, length-append, length-replicate, length-take}
+use lib.Seq.{take-append-seam}
+use Rattle.rules.specs.Answers.{noFamily}
+use Rattle.stream_rules.specs.Heads.{isFamily, longest, head, atClose}
+use Rattle.stream_rules.specs.Rule.{Look, ready, waiting, look, Call, gives, wants, call}
+use Rattle.stream_rules.specs.Streams.{wrap, holds, heldOf, holding, isClosed, holdsTooMuch, refuse, goOn, openCall, closedCall, fed, shut, fresh}
+use Rattle.stream_rules.specs.declared.Reader.{Reader}
+use Rattle.stream_rules.specs.declared.Answer.the-variants.{Done}
+use Rattle.stream_rules.specs.declared.Fed.{Fed}
+use Rattle.stream_rules.specs.declared.Outcome.the-variants.{Accepted, Refused as NotAccepted}
+use Rattle.stream_rules.specs.declared.Turned.{Turned}
+use Rattle.stream_laws.specs.Sessions.{isNoRefusal}
+use Rattle.stream_laws.proofs.Facts.{Facts, top-above}
+use Rattle.stream_laws.proofs.Calls.{gives-short, wants-short, drain-adds-up}
+
+-- A count that has wrapped is counted on as if it had not.
+pub wrap-on : (a b : ℕ) → wrap (wrap a + b) ≡ wrap (a + b)
+wrap-on a b = mod-add-mod a (2 ^ 32) b
+
+-- No family's longest frame has more than 134 bytes, so the held bytes have room.
+pub longest-fits : (family : ℕ) → longest family ≤ 134
+longest-fits family = go (eqb family 1) (eqb family 2)
+  where
+    go : (a b : Bool) → cond a 75 (cond b 134 6) ≤ 134
+    go true b = omega arith
+    go false true = omega arith
+    go false false = omega arith
+
+-- The state made from a list of bytes holds these bytes.
+pub held-of-holding : (family closed : ℕ) (bytes : List ℕ) (at skipped : ℕ) → heldOf (holding family closed bytes at skipped) ≡ bytes
+held-of-holding family closed bytes at skipped = take-append-seam bytes (replicate (133 - length bytes) 0)
+
+-- Refusals, in their order: 1, then 6, then 5. Each gives its number only, and the state as it was.
+pub refused-1 : (r : Reader) (offered : List ℕ) → isFamily (r .family) ≡ false → fed r offered ≡ refuse r noFamily
+unfolding fed
+refused-1 r offered e = rw e
+
+pub refused-6 : (r : Reader) (offered : List ℕ) → isFamily (r .family) ≡ true → holds (r .family) < r .count → fed r offered ≡ refuse r holdsTooMuch
+unfolding fed
+refused-6 r offered e p = rw (e, lt-leb (r .count) (holds (r .family)) p)
+
+pub refused-5 : (r : Reader) (offered : List ℕ) → isFamily (r .family) ≡ true → r .count ≤ holds (r .family) → (r .closed ≡ 0 → ⊥) → (length offered ≡ 0 → ⊥)
+    → fed r offered ≡ refuse r isClosed
+unfolding fed
+refused-5 r offered e p q s = rw (e, le-leb (r .count) (holds (r .family)) p, ne-eqb (r .closed) 0 q, ne-eqb (length offered) 0 s)
+
+-- No other call is refused: an open reader looks at what it holds and takes, a closed one is drained.
+pub open-call : (r : Reader) (offered : List ℕ) → isFamily (r .family) ≡ true → r .count ≤ holds (r .family) → r .closed ≡ 0
+    → fed r offered ≡ openCall r (call (head (r .family)) (heldOf r) offered)
+unfolding fed
+open-call r offered e p q = rw (e, le-leb (r .count) (holds (r .family)) p, eq-eqb (r .closed) 0 q)
+
+pub closed-call : (r : Reader) → isFamily (r .family) ≡ true → r .count ≤ holds (r .family) → (r .closed ≡ 0 → ⊥)
+    → fed r [] ≡ closedCall r (look (atClose (head (r .family))) (heldOf r))
+unfolding fed
+closed-call r e p q = rw (e, le-leb (r .count) (holds (r .family)) p, ne-eqb (r .closed) 0 q)
+
+pub shut-1 : (r : Reader) → isFamily (r .family) ≡ false → shut r ≡ record { reader = r; outcome = NotAccepted noFamily }
+unfolding shut
+shut-1 r e = rw e
+
+pub shut-6 : (r : Reader) → isFamily (r .family) ≡ true → holds (r .family) < r .count → shut r ≡ record { reader = r; outcome = NotAccepted holdsTooMuch }
+unfolding shut
+shut-6 r e p = rw (e, lt-leb (r .count) (holds (r .family)) p)
+
+pub shut-call : (r : Reader) → isFamily (r .family) ≡ true → r .count ≤ holds (r .family)
+    → shut r ≡ record { reader = holding (r .family) 1 (heldOf r) (r .at) (r .skipped); outcome = Accepted }
+unfolding shut
+shut-call r e p = rw (e, le-leb (r .count) (holds (r .family)) p)
+
+pub fresh-1 : (family : ℕ) → isFamily family ≡ false → fresh family ≡ record { reader = holding 0 0 [] 0 0; outcome = NotAccepted noFamily }
+unfolding fresh
+fresh-1 family e = rw e
+
+pub fresh-call : (family : ℕ) → isFamily family ≡ true → fresh family ≡ record { reader = holding family 0 [] 0 0; outcome = Accepted }
+unfolding fresh
+fresh-call family e = rw e
+
+-- Every call is one of five: refused by 1, 6 or 5, or a call of an open reader, or one that drains a closed reader.
+pub data Kind (r : Reader) (offered : List ℕ) : Type 0 where
+  no-family : isFamily (r .family) ≡ false → Kind r offered
+  too-much : isFamily (r .family) ≡ true → holds (r .family) < r .count → Kind r offered
+  offers-closed : isFamily (r .family) ≡ true → r .count ≤ holds (r .family) → (r .closed ≡ 0 → ⊥) → (length offered ≡ 0 → ⊥) → Kind r offered
+  feeds : isFamily (r .family) ≡ true → r .count ≤ holds (r .family) → r .closed ≡ 0 → Kind r offered
+  drains : isFamily (r .family) ≡ true → r .count ≤ holds (r .family) → (r .closed ≡ 0 → ⊥) → offered ≡ [] → Kind r offered
+
+pub kind : (r : Reader) (offered : List ℕ) → Kind r offered
+kind r offered = go (isFamily (r .family)) (leb (r .count) (holds (r .family))) (eqb (r .closed) 0) offered refl refl refl refl
+  where
+    go : (a b c : Bool) (o : List ℕ) → isFamily (r .family) ≡ a → leb (r .count) (holds (r .family)) ≡ b → eqb (r .closed) 0 ≡ c → offered ≡ o → Kind r offered
+    go false b c o p q s t = no-family p
+    go true false c o p q s t = too-much p (leb-false (r .count) (holds (r .family)) q)
+    go true true true o p q s t = feeds p (leb-true (r .count) (holds (r .family)) q) (eqb-true (r .closed) 0 s)
+    go true true false [] p q s t = drains p (leb-true (r .count) (holds (r .family)) q) (eqb-false (r .closed) 0 s) t
+    go true true false (x ∷ o) p q s t =
+        offers-closed p (leb-true (r .count) (holds (r .family)) q) (eqb-false (r .closed) 0 s) (λ n. let m : suc (length o) ≡ 0 = sym (ap length t) ∙ n in omega arith)
+
+-- What holds of a call's result, if it holds of each refusal, of an open reader's call and of a closed one's.
+module _ (r : Reader) (offered : List ℕ) (P : Fed → Type 0)
+    (on-refusal : (n : ℕ) → P (refuse r n))
+    (on-open : isFamily (r .family) ≡ true → r .count ≤ holds (r .family) → P (openCall r (call (head (r .family)) (heldOf r) offered)))
+    (on-closed : isFamily (r .family) ≡ true → r .count ≤ holds (r .family) → (r .closed ≡ 0 → ⊥) → P (closedCall r (look (atClose (head (r .family))) (heldOf r)))) where
+  by-kind : P (fed r offered)
+  by-kind = go (kind r offered)
+    where
+      go : Kind r offered → P (fed r offered)
+      go (no-family p) = rw (refused-1 r offered p) (on-refusal noFamily)
+      go (too-much p q) = rw (refused-6 r offered p q) (on-refusal holdsTooMuch)
+      go (offers-closed p q s t) = rw (refused-5 r offered p q s t) (on-refusal isClosed)
+      go (feeds p q s) = rw (open-call r offered p q s) (on-open p q)
+      go (drains p q s t) = rw (t, closed-call r p q s) (on-closed p q s)
+
+-- A call that is no refusal by 1, 6 or 5 answers with a frame, more wanted, or done.
+open-no-refusal : (r : Reader) (c : Call) → isNoRefusal ((openCall r c) .answer) ≡ true
+open-no-refusal r (gives taken k n f kept) = refl
+open-no-refusal r (wants taken k kept) = refl
+
+closed-no-refusal : (r : Reader) (l : Look) → isNoRefusal ((closedCall r l) .answer) ≡ true
+closed-no-refusal r (ready k n f behind) = refl
+closed-no-refusal r (waiting k rest) = refl
+
+pub open-not-refused : (r : Reader) (offered : List ℕ) → isFamily (r .family) ≡ true → r .count ≤ holds (r .family) → r .closed ≡ 0
+    → isNoRefusal ((fed r offered) .answer) ≡ true
+open-not-refused r offered p q s = rw (open-call r offered p q s) (open-no-refusal r (call (head (r .family)) (heldOf r) offered))
+
+pub closed-not-refused : (r : Reader) → isFamily (r .family) ≡ true → r .count ≤ holds (r .family) → (r .closed ≡ 0 → ⊥)
+    → isNoRefusal ((fed r []) .answer) ≡ true
+closed-not-refused r p q s = rw (closed-call r p q s) (closed-no-refusal r (look (atClose (head (r .family))) (heldOf r)))
+
+-- A refusal leaves the state as it was.
+pub refused-as-before : (r : Reader) (offered : List ℕ) → isNoRefusal ((fed r offered) .answer) ≡ false → (fed r offered) .reader ≡ r
+refused-as-before r offered =
+    by-kind r
+    offered
+    (λ a. isNoRefusal (a .answer) ≡ false → a .reader ≡ r)
+    (λ n e. refl)
+    (λ p q e. absurd (true≢false (sym (open-no-refusal r (call (head (r .family)) (heldOf r) offered)) ∙ e)))
+    (λ p q s e. absurd (true≢false (sym (closed-no-refusal r (look (atClose (head (r .family))) (heldOf r))) ∙ e)))
+
+-- The unused places are zero in each state given back without a refusal.
+abbrev pub Tidy : Reader → Type 0
+Tidy r = r .held ≡ heldOf r ++ replicate (133 - r .count) 0
+
+pub holding-tidy : (family closed : ℕ) (bytes : List ℕ) (at skipped : ℕ) → Tidy (holding family closed bytes at skipped)
+holding-tidy family closed bytes at skipped =
+    ap (λ (l : List ℕ). l ++ replicate (133 - length bytes) 0) (sym (held-of-holding family closed bytes at skipped))
+
+pub unused-zero : (r : Reader) (offered : List ℕ) → isNoRefusal ((fed r offered) .answer) ≡ true → Tidy ((fed r offered) .reader)
+unused-zero r offered =
+    by-kind r
+    offered
+    (λ a. isNoRefusal (a .answer) ≡ true → Tidy (a .reader))
+    (λ n e. absurd (false≢true e))
+    (λ p q e. on-open (call (head (r .family)) (heldOf r) offered))
+    (λ p q s e. on-closed (look (atClose (head (r .family))) (heldOf r)))
+  where
+    on-open : (c : Call) → Tidy ((openCall r c) .reader)
+    on-open (gives taken k n f kept) = holding-tidy (r .family) (r .closed) kept (wrap (r .at + (k + n))) 0
+    on-open (wants taken k kept) = holding-tidy (r .family) (r .closed) kept (wrap (r .at + k)) (wrap (r .skipped + k))
+
+    on-closed : (l : Look) → Tidy ((closedCall r l) .reader)
+    on-closed (ready k n f behind) = holding-tidy (r .family) (r .closed) behind (wrap (r .at + (k + n))) 0
+    on-closed (waiting k rest) = holding-tidy (r .family) (r .closed) [] (wrap (r .at + k)) (wrap (r .skipped + k))
+
+-- Where the family has the four facts, such a state holds no more than the family allows, and has its 133 places.
+pub record Fits (r : Reader) : Type 0 where
+  pub count : r .count ≤ holds (r .family)
+  pub places : length (r .held) ≡ 133
+
+pub holding-fits : (family closed : ℕ) (bytes : List ℕ) (at skipped : ℕ) → length bytes < longest family → Fits (holding family closed bytes at skipped)
+holding-fits family closed bytes at skipped p =
+    let room : longest family ≤ 134 = longest-fits family in
+    record {
+      count = omega arith;
+      places = length-append bytes (replicate (133 - length bytes) 0) ∙ ap (λ (n : ℕ). length bytes + n) (length-replicate (133 - length bytes) 0) ∙ omega arith;
+    }
+
+pub held-short : (r : Reader) → Facts (head (r .family)) (longest (r .family)) → r .count ≤ holds (r .family) → length (heldOf r) < longest (r .family)
+held-short r facts p =
+    let above : 0 < longest (r .family) = top-above (head (r .family)) (longest (r .family)) facts in
+    rw (length-take (r .count) (r .held)) (omega arith)
+
+module _ (r : Reader) (offered : List ℕ) (facts : Facts (head (r .family)) (longest (r .family))) where
+  open-fits : length (heldOf r) < longest (r .family) → (c : Call) → call (head (r .family)) (heldOf r) offered ≡ c → Fits ((openCall r c) .reader)
+  open-fits p (gives taken k n f kept) e =
+      holding-fits (r .family) (r .closed) kept (wrap (r .at + (k + n))) 0
+      (gives-short (head (r .family)) (longest (r .family)) facts (heldOf r) offered taken k n f kept e p)
+  open-fits p (wants taken k kept) e =
+      holding-fits (r .family) (r .closed) kept (wrap (r .at + k)) (wrap (r .skipped + k))
+      (wants-short (head (r .family)) (longest (r .family)) facts (heldOf r) offered taken k kept e)
+
+  closed-fits : length (heldOf r) < longest (r .family) → (l : Look) → look (atClose (head (r .family))) (heldOf r) ≡ l → Fits ((closedCall r l) .reader)
+  closed-fits p (ready k n f behind) e =
+      let adds-up = drain-adds-up (head (r .family)) (longest (r .family)) facts (heldOf r) k n f behind e in
+      holding-fits (r .family) (r .closed) behind (wrap (r .at + (k + n))) 0 (omega arith)
+  closed-fits p (waiting k rest) e = holding-fits (r .family) (r .closed) [] (wrap (r .at + k)) (wrap (r .skipped + k)) (omega arith)
+
+  pub state-fits : isNoRefusal ((fed r offered) .answer) ≡ true → Fits ((fed r offered) .reader)
+  state-fits =
+      by-kind r
+      offered
+      (λ a. isNoRefusal (a .answer) ≡ true → Fits (a .reader))
+      (λ n e. absurd (false≢true e))
+      (λ p q e. open-fits (held-short r facts q) (call (head (r .family)) (heldOf r) offered) refl)
+      (λ p q s e. closed-fits (held-short r facts q) (look (atClose (head (r .family))) (heldOf r)) refl)
+
+-- What they were before has no effect: a reader whose held places are others, but the same as far as they are used,
+-- gives the same answer, and the same state where that is no refusal.
+abbrev pub withHeld : Reader → List ℕ → Reader
+withHeld r held = record { family = r .family; closed = r .closed; count = r .count; held = held; at = r .at; skipped = r .skipped }
+
+pub record SameCall (a b : Fed) : Type 0 where
+  pub answer : a .answer ≡ b .answer
+  pub state : isNoRefusal (a .answer) ≡ true → a .reader ≡ b .reader
+
+module _ (r : Reader) (held : List ℕ) (used : heldOf (withHeld r held) ≡ heldOf r) (offered : List ℕ) where
+  both-refused : (n : ℕ) → fed r offered ≡ refuse r n → fed (withHeld r held) offered ≡ refuse (withHeld r held) n
+      → SameCall (fed r offered) (fed (withHeld r held) offered)
+  both-refused n e f = rw (e, f) (record { answer = refl; state = λ t. absurd (false≢true t) })
+
+  both-taken : fed r offered ≡ fed (withHeld r held) offered → SameCall (fed r offered) (fed (withHeld r held) offered)
+  both-taken e = record { answer = ap (λ (a : Fed). a .answer) e; state = λ t. ap (λ (a : Fed). a .reader) e }
+
+  open-same : (c : Call) → openCall (withHeld r held) c ≡ openCall r c
+  open-same (gives taken k n f kept) = refl
+  open-same (wants taken k kept) = refl
+
+  closed-same : (l : Look) → closedCall (withHeld r held) l ≡ closedCall r l
+  closed-same (ready k n f behind) = refl
+  closed-same (waiting k rest) = refl
+
+  same-by-kind : Kind r offered → SameCall (fed r offered) (fed (withHeld r held) offered)
+  same-by-kind (no-family p) = both-refused noFamily (refused-1 r offered p) (refused-1 (withHeld r held) offered p)
+  same-by-kind (too-much p q) = both-refused holdsTooMuch (refused-6 r offered p q) (refused-6 (withHeld r held) offered p q)
+  same-by-kind (offers-closed p q s t) = both-refused isClosed (refused-5 r offered p q s t) (refused-5 (withHeld r held) offered p q s t)
+  same-by-kind (feeds p q s) =
+      both-taken
+      (open-call r offered p q s
+      ∙ sym
+      (open-call (withHeld r held) offered p q s
+      ∙ open-same (call (head (r .family)) (heldOf (withHeld r held)) offered)
+      ∙ ap (λ (l : List ℕ). openCall r (call (head (r .family)) l offered)) used))
+  same-by-kind (drains p q s t) =
+      both-taken
+      (rw t
+      (closed-call r p q s
+      ∙ sym
+      (closed-call (withHeld r held) p q s
+      ∙ closed-same (look (atClose (head (r .family))) (heldOf (withHeld r held)))
+      ∙ ap (λ (l : List ℕ). closedCall r (look (atClose (head (r .family))) l)) used)))
+
+  pub unused-no-effect : SameCall (fed r offered) (fed (withHeld r held) offered)
+  unused-no-effect = same-by-kind (kind r offered)
+
+-- Closing, where it is not refused: the unused places are zero, the state fits, and what they were before has no effect.
+pub shut-tidy : (r : Reader) → isFamily (r .family) ≡ true → r .count ≤ holds (r .family) → Tidy ((shut r) .reader)
+shut-tidy r p q = rw (shut-call r p q) (holding-tidy (r .family) 1 (heldOf r) (r .at) (r .skipped))
+
+pub shut-fits : (r : Reader) → Facts (head (r .family)) (longest (r .family)) → isFamily (r .family) ≡ true → r .count ≤ holds (r .family)
+    → Fits ((shut r) .reader)
+shut-fits r facts p q = rw (shut-call r p q) (holding-fits (r .family) 1 (heldOf r) (r .at) (r .skipped) (held-short r facts q))
+
+pub shut-no-effect : (r : Reader) (held : List ℕ) → heldOf (withHeld r held) ≡ heldOf r → isFamily (r .family) ≡ true → r .count ≤ holds (r .family)
+    → shut (withHeld r held) ≡ shut r
+shut-no-effect r held used p q =
+    shut-call (withHeld r held) p q
+    ∙ ap (λ (l : List ℕ). record { reader = holding (r .family) 1 l (r .at) (r .skipped); outcome = Accepted }) used
+    ∙ sym (shut-call r p q)
+
+-- Closing twice is as once, whatever the state.
+pub shut-twice : (r : Reader) → shut ((shut r) .reader) ≡ shut r
+shut-twice r = go (kind r [])
+  where
+    as-before : (t : Turned) → shut r ≡ t → t .reader ≡ r → shut ((shut r) .reader) ≡ shut r
+    as-before t e s = ap shut (ap (λ (u : Turned). u .reader) e ∙ s)
+
+    accepted : isFamily (r .family) ≡ true → r .count ≤ holds (r .family) → shut ((shut r) .reader) ≡ shut r
+    accepted p q =
+        let bytes : List ℕ = heldOf r in
+        let few : length bytes ≤ holds (r .family) = rw (length-take (r .count) (r .held)) (omega arith) in
+        ap (λ (t : Turned). shut (t .reader)) (shut-call r p q)
+        ∙ shut-call (holding (r .family) 1 bytes (r .at) (r .skipped)) p few
+        ∙ ap (λ (l : List ℕ). record { reader = holding (r .family) 1 l (r .at) (r .skipped); outcome = Accepted }) (held-of-holding (r .family) 1 bytes (r .at) (r .skipped))
+        ∙ sym (shut-call r p q)
+
+    go : Kind r [] → shut ((shut r) .reader) ≡ shut r
+    go (no-family p) = as-before (record { reader = r; outcome = NotAccepted noFamily }) (shut-1 r p) refl
+    go (too-much p q) = as-before (record { reader = r; outcome = NotAccepted holdsTooMuch }) (shut-6 r p q) refl
+    go (offers-closed p q s t) = accepted p q
+    go (feeds p q s) = accepted p q
+    go (drains p q s t) = accepted p q
+
+-- Once a call answers that it is done, so does every later call that offers nothing, and the state stays as it is.
+done-again : (r : Reader) → isFamily (r .family) ≡ true → (r .closed ≡ 0 → ⊥) → (k : ℕ)
+    → let s : Reader = (goOn r k [] (Done 0)) .reader in fed s [] ≡ record { reader = s; answer = Done 0 }
+unfolding look
+done-again r p closed k =
+    closed-call ((goOn r k [] (Done 0)) .reader) p (omega arith) closed
+    ∙ ap₂ (λ (at skipped : ℕ). record { reader = holding (r .family) (r .closed) [] at skipped; answer = Done 0 }) (again (r .at + k)) (again (r .skipped + k))
+  where
+    again : (a : ℕ) → wrap (wrap a + 0) ≡ wrap a
+    again a = wrap-on a 0 ∙ ap wrap (add-zero a)
+
+pub done-stays : (r : Reader) (offered : List ℕ) (n : ℕ) → (fed r offered) .answer ≡ Done n
+    → fed ((fed r offered) .reader) [] ≡ record { reader = (fed r offered) .reader; answer = Done 0 }
+done-stays r offered n =
+    by-kind r
+    offered
+    (λ a. a .answer ≡ Done n → fed (a .reader) [] ≡ record { reader = a .reader; answer = Done 0 })
+    (λ m e. let z : _≡_ {A = ℕ} 0 1 = cc in absurd (omega arith))
+    (λ p q e. absurd (on-open (call (head (r .family)) (heldOf r) offered) e))
+    (λ p q s. on-closed p s (look (atClose (head (r .family))) (heldOf r)))
+  where
+    on-open : (c : Call) → (openCall r c) .answer ≡ Done n → ⊥
+    on-open (gives taken k m f kept) e = let z : _≡_ {A = ℕ} 0 1 = cc in omega arith
+    on-open (wants taken k kept) e = let z : _≡_ {A = ℕ} 0 1 = cc in omega arith
+
+    on-closed : isFamily (r .family) ≡ true → (r .closed ≡ 0 → ⊥) → (l : Look) → (closedCall r l) .answer ≡ Done n
+        → fed ((closedCall r l) .reader) [] ≡ record { reader = (closedCall r l) .reader; answer = Done 0 }
+    on-closed p s (ready k m f behind) e = let z : _≡_ {A = ℕ} 0 1 = cc in absurd (omega arith)
+    on-closed p s (waiting k rest) e = done-again r p s k

@@ -1,0 +1,3 @@
+-- What demand 3 speaks of.
+pub mod Earliest
+pub mod Sessions

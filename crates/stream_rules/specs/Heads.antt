@@ -1,0 +1,76 @@
+-- What stands at the head of a list of bytes: an undecided start, a bad one, or a good frame.
+use Prim.Native.Nat.{ℕ, _+_, _-_}
+use Prim.Native.Char.{code}
+use mathlib.Core.Bool.{Bool, true, _&&_, _||_, cond}
+use mathlib.Core.List.{List, [], _∷_}
+use lib.Dec.{eqb, leb, ltb}
+use lib.ListN.{length, take, drop, getD}
+use Rattle.rules.specs.Bytes.{oneOf, every}
+use Rattle.rules.specs.Sentences.{isPayloadByte}
+use Rattle.rules.specs.Answers.{readOne}
+use Rattle.rules.specs.declared.Frame.{Frame}
+use Rattle.rules.specs.declared.Reading.{Reading}
+use Rattle.rules.specs.declared.Reading.the-variants.{Good, Refused}
+
+abbrev pub isFamily : ℕ → Bool
+isFamily family = oneOf (1 ∷ 2 ∷ 3 ∷ []) family
+
+-- The longest frame: 75 bytes of an SPE reply, 134 of a sentence, 6 of a command.
+abbrev pub longest : ℕ → ℕ
+longest family = cond (eqb family 1) 75 (cond (eqb family 2) 134 6)
+
+-- An SPE start is undecided while there are fewer than four bytes that match the three marks as far as they go, or three
+-- marks and an allowed count with fewer bytes than that count needs. A count that is not allowed needs none.
+abbrev pub markOf : ℕ → ℕ
+markOf family = cond (eqb family 3) 0x55 0xAA
+
+abbrev pub needs : ℕ → ℕ → ℕ
+needs family count = cond (eqb count 0x01) 6 (cond (eqb family 1 && eqb count 0x43) 75 0)
+
+unfoldable pub spe-undecided : ℕ → List ℕ → Bool
+spe-undecided family bs =
+    (ltb (length bs) 4 && every (eqb (markOf family)) bs)
+    || (leb 4 (length bs) && every (eqb (markOf family)) (take 3 bs) && ltb (length bs) (needs family (getD bs 3 0)))
+
+-- A start of a sentence is undecided while it is `$` and 0 to 128 payload bytes, perhaps with `*` and fewer than four
+-- bytes after it. Where there is no byte, nothing is decided.
+unfoldable pub payloadRun : List ℕ → List ℕ
+payloadRun [] = []
+payloadRun (b ∷ bs) = cond (isPayloadByte b) (b ∷ payloadRun bs) []
+
+abbrev pub openEnd : List ℕ → Bool
+openEnd [] = true
+openEnd (b ∷ bs) = eqb b (code "*") && ltb (length bs) 4
+
+abbrev pub sentence-undecided : List ℕ → Bool
+sentence-undecided [] = true
+sentence-undecided (b ∷ bs) = eqb b (code "$") && leb (length (payloadRun bs)) 128 && openEnd (drop (length (payloadRun bs)) bs)
+
+unfoldable pub undecided : ℕ → List ℕ → Bool
+undecided family bs = cond (eqb family 2) (sentence-undecided bs) (spe-undecided family bs)
+
+-- How long a frame at the head would be: as long as its count needs, or its payload with `$`, `*` and four digits.
+abbrev pub lengthAt : ℕ → List ℕ → ℕ
+lengthAt family bs = cond (eqb family 2) (length (payloadRun (drop 1 bs)) + 6) (needs family (getD bs 3 0))
+
+-- the head of a list: undecided, bad, or a good frame with its length
+pub data Head : Type 0 where
+  wait : Head
+  bad : Head
+  good : ℕ → Frame → Head
+
+abbrev pub headOf : ℕ → Reading → Head
+headOf n (Good f) = good n f
+headOf n (Refused number) = bad
+
+unfoldable pub head : ℕ → List ℕ → Head
+head family bs = cond (undecided family bs) wait (headOf (lengthAt family bs) (readOne family (take (lengthAt family bs) bs)))
+
+-- at close, an undecided start is no frame
+abbrev pub closedHead : Head → Head
+closedHead wait = bad
+closedHead bad = bad
+closedHead (good n f) = good n f
+
+abbrev pub atClose : (List ℕ → Head) → List ℕ → Head
+atClose h bs = closedHead (h bs)

@@ -1,0 +1,107 @@
+// Prints what the reader of one frame makes of each line of standard input, for comparison with a
+// stored output: a family digit, a space, and the frame, either as it stands, from `$` on, or in
+// hexadecimal digits. A line that begins with `#` is a heading and is printed as it is.
+//
+// What is printed is tested, not proved: the contracts only keep indices in range.
+use rules::Reading;
+ghost use Prim.Native.Nat.{_≤_};
+ghost use lib.ListN.{length};
+
+fn main() {
+    let mut text = io::large_buffer();
+    let n = io::read_full(libc::STDIN_FILENO, &mut text);
+    print_all(&text[..n]);
+}
+
+fn print_all(text: &[u8]) {
+    let mut at = 0;
+    while at < text.len() {
+        let end = line_end(text, at);
+        print_answer(&text[at..end]);
+        at = end + 1;
+    }
+}
+
+// Where the line ends that has place a in it.
+fn line_end(text: &[u8], a: usize) -> usize
+    requires { ⌜ a ≤ length (now text) ⌝ }
+    ensures { λ r. ⌜ (a ≤ r) × (r ≤ length (now (text .entry))) ⌝ }
+{
+    let mut end = a;
+    while end < text.len() {
+        if text[end] == b'\n' {
+            return end;
+        }
+        end += 1;
+    }
+    end
+}
+
+fn print_answer(line: &[u8]) {
+    if line.len() < 2 {
+        print_text(b"bad line");
+        return;
+    }
+    if line[0] == b'#' {
+        print_text(line);
+        return;
+    }
+    let family = std::num::wrapping_sub_u8(line[0], b'0');
+    let frame = &line[2..];
+    if 0 < frame.len() {
+        if frame[0] == b'$' {
+            print_frame(family, frame);
+            return;
+        }
+    }
+    print_hex(family, frame);
+}
+
+fn print_hex(family: u8, digits: &[u8]) {
+    let mut bytes = [0u8; 256];
+    let n = from_hex(digits, &mut bytes);
+    if n + n == digits.len() {
+        print_frame(family, &bytes[0..n]);
+    } else {
+        print_text(b"bad line");
+    }
+}
+
+// The bytes that the digits give, as far as they go, and how many.
+fn from_hex(digits: &[u8], bytes: &mut [u8]) -> usize
+    ensures { λ r. ⌜ r ≤ length (now (bytes .exit)) ⌝ }
+{
+    let mut n = 0;
+    while n < bytes.len() {
+        if digits.len() / 2 <= n {
+            return n;
+        }
+        let pair = hex::hex_pair(digits[2 * n], digits[2 * n + 1]);
+        if !pair.good {
+            return n;
+        }
+        pens::put_byte(bytes, n, pair.value);
+        n += 1;
+    }
+    n
+}
+
+fn print_frame(family: u8, bytes: &[u8]) {
+    let mut line = [0u8; 512];
+    match frames::read_frame(family, bytes) {
+        Reading::Good(frame) => {
+            let end = show::frame(&mut line, 0, frame);
+            show::print(&mut line, end);
+        }
+        Reading::Refused(n) => {
+            let end = show::refused(&mut line, 0, n);
+            show::print(&mut line, end);
+        }
+    }
+}
+
+fn print_text(text: &[u8]) {
+    let mut line = [0u8; 512];
+    let end = show::text(&mut line, 0, text);
+    show::print(&mut line, end);
+}
