@@ -1,7 +1,7 @@
 -- Demand 3 of each family, from its own facts: the theorems about sessions, about the rule and about the lister hold of
 -- families 1, 2 and 3. They speak of `fed`, `shut`, `fresh` and `Lists`, which the functions that run give.
 -- Assumes nothing.
-use Prim.Native.Nat.{ℕ, _≤_}
+use Prim.Native.Nat.{ℕ}
 use mathlib.Core.Path.{_≡_}
 use mathlib.Core.Bool.{true}
 use mathlib.Core.List.{List, _++_, map}

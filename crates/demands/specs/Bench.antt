@@ -10,7 +10,6 @@ use Rattle.rules.specs.declared.Reading.the-variants.{Good, Refused}
 use Rattle.stream_rules.specs.Rule.{Found}
 use Rattle.stream_rules.specs.Streams.{fed, shut, fresh}
 use Rattle.stream_rules.specs.Lister.{frames}
-use Rattle.stream_rules.specs.declared.Reader.{Reader}
 use Rattle.stream_rules.specs.declared.Answer.{Answer}
 use Rattle.stream_rules.specs.declared.Answer.the-variants.{Ready, More, Done}
 use Rattle.stream_rules.specs.declared.Fed.{Fed}

@@ -1,2 +1,3 @@
--- What the bench sheet says.
+-- The numbers of the answers, and what the bench sheet says.
+pub mod Numbers
 pub mod Bench
