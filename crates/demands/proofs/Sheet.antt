@@ -1,4 +1,4 @@
--- The bench sheet's cases 1 to 10: each is computed from the definitions.
+-- The bench sheet's cases 1 to 11: each is computed from the definitions.
 -- Assumes nothing.
 use mathlib.Core.Path.{refl}
 use Rattle.rules.specs.Bytes.{total, oneOf, every, same}
@@ -32,4 +32,6 @@ sheet = record {
   case9 = refl;
   case10 = refl;
   case10-command = refl;
+  case11 = (refl, refl, refl);
+  case11-listed = λ family. refl;
 }

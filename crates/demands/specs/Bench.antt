@@ -1,4 +1,4 @@
--- The cases of the bench sheet that are proved, 1 to 10, gathered under one statement over the definitions.
+-- The cases of the bench sheet that are proved, 1 to 10, and 11 besides, gathered under one statement over the definitions.
 use Prim.Native.Nat.{ℕ}
 use mathlib.Core.Path.{_≡_}
 use mathlib.Core.List.{List, [], _∷_, _++_}
@@ -66,6 +66,9 @@ acknowledged taken start skipped code = Ready (record { taken = taken; start = s
 
 abbrev pub foundAck : ℕ → ℕ → ℕ → Found
 foundAck start skipped code = record { start = start; skipped = skipped; size = 6; frame = Ack code }
+
+abbrev pub emptied : ℕ → Fed
+emptied family = fed (shut (fresh family .reader) .reader) []
 
 pub record BenchSheet : Type 0 where
   -- 1. One frame at 1.
@@ -150,3 +153,6 @@ pub record BenchSheet : Type 0 where
   -- 10. Code 90 is not acknowledged, and is a command.
   pub case10 : readOne 1 (0xAA ∷ 0xAA ∷ 0xAA ∷ 0x01 ∷ 0x90 ∷ 0x90 ∷ []) ≡ Refused notGood
   pub case10-command : readOne 3 (0x55 ∷ 0x55 ∷ 0x55 ∷ 0x01 ∷ 0x90 ∷ 0x90 ∷ []) ≡ Good (Command 0x90)
+  -- 11. An empty stream, closed: done at once, and nothing listed.
+  pub case11 : (emptied 1 .answer ≡ Done 0) × (emptied 2 .answer ≡ Done 0) × (emptied 3 .answer ≡ Done 0)
+  pub case11-listed : (family : ℕ) → frames family [] ≡ []
