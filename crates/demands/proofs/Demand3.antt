@@ -6,7 +6,7 @@ use mathlib.Core.Path.{_≡_}
 use mathlib.Core.Bool.{true}
 use mathlib.Core.List.{List, _++_, map}
 use lib.ListN.{length, take}
-use Rattle.stream_rules.specs.Heads.{isFamily}
+use Rattle.rules.specs.Answers.{isFamily}
 use Rattle.stream_rules.specs.Rule.{Found}
 use Rattle.stream_rules.specs.Streams.{wrap, fresh}
 use Rattle.stream_rules.specs.Lister.{frames, startsOf, Lists}

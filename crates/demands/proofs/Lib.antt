@@ -1,8 +1,6 @@
--- `Demand1` has the numbers of the answers and when each is given, `Demand3` has demand 3 and what goes with it for each
--- family, `Values` says that a frame's values tell its record, `Sheet` has the cases of the bench sheet, and `Single` why
--- a statement by one definition leaves one answer.
+-- `Demand1` has when the reader of one frame says which number, `Demand3` has demand 3 and what goes with it for each
+-- family, `Values` says that a frame's values tell its record, and `Sheet` has the cases of the bench sheet.
 pub mod Demand1
 pub mod Demand3
 pub mod Values
 pub mod Sheet
-pub mod Single

@@ -1,9 +1,10 @@
 -- The cases of the bench sheet that are proved, 1 to 10, and 11 besides, gathered under one statement over the definitions.
 use Prim.Native.Nat.{ℕ}
 use mathlib.Core.Path.{_≡_}
-use mathlib.Core.List.{List, [], _∷_, _++_}
-use lib.ListN.{replicate}
+use mathlib.Core.List.{List, [], _∷_, _++_, map}
+use lib.ListN.{take, replicate}
 use Rattle.rules.specs.Bytes.{ascii, total}
+use Rattle.rules.specs.Codes.{codes, ack}
 use Rattle.rules.specs.Answers.{readOne, notGood}
 use Rattle.rules.specs.declared.Frame.the-variants.{Ack, Status, Command, Apa05}
 use Rattle.rules.specs.declared.Reading.the-variants.{Good, Refused}
@@ -27,8 +28,12 @@ bytes1 = 0xAA ∷ ack0D
 abbrev pub bytes2 : List ℕ
 bytes2 = ack0D ++ ack09
 
-abbrev pub bytes3 : List ℕ
-bytes3 = 0xAA ∷ 0xAA ∷ 0xAA ∷ 0x01 ∷ 0x0D ∷ 0x0E ∷ ack0D
+-- every code but the last, 90, which is never acknowledged
+abbrev pub acknowledgedCodes : List ℕ
+acknowledgedCodes = take 19 codes
+
+abbrev pub bytes3 : ℕ → List ℕ
+bytes3 code = 0xAA ∷ 0xAA ∷ 0xAA ∷ 0x01 ∷ 0x0D ∷ 0x0E ∷ ack code
 
 abbrev pub bytes4 : List ℕ
 bytes4 = 0xAA ∷ 0xAA ∷ 0xAA ∷ 0x43 ∷ bytes2
@@ -75,8 +80,8 @@ pub record BenchSheet : Type 0 where
   pub case1 : frames 1 bytes1 ≡ foundAck 1 1 0x0D ∷ []
   -- 2. Starts 0 and 6, skipped 0 and 0.
   pub case2 : frames 1 bytes2 ≡ foundAck 0 0 0x0D ∷ foundAck 6 0 0x09 ∷ []
-  -- 3. Start 6, skipped 6.
-  pub case3 : frames 1 bytes3 ≡ foundAck 6 6 0x0D ∷ []
+  -- 3. Start 6, skipped 6, whatever is acknowledged.
+  pub case3 : map (λ code. frames 1 (bytes3 code)) acknowledgedCodes ≡ map (λ code. foundAck 6 6 code ∷ []) acknowledgedCodes
   -- 4. Nothing is handed out on the 16 bytes.
   pub case4 : first4 .answer ≡ More 16
   -- At close, starts 4 and 10.

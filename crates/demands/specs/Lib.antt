@@ -1,3 +1,2 @@
--- The numbers of the answers, and what the bench sheet says.
-pub mod Numbers
+-- What the bench sheet says.
 pub mod Bench

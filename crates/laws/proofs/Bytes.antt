@@ -145,3 +145,13 @@ places-drop none (suc n) k xs size = rw (drop-cons xs k none (omega arith), plac
 
 pub one-by-one : {A : Type 0} (none : A) (n : ℕ) (xs : List A) → length xs ≡ n → places none n 0 xs ≡ xs
 one-by-one none n xs size = places-drop none n 0 xs (omega arith)
+
+-- Where a part of lent bytes stands: k places behind their front, which may be 0.
+pub front-stands : (p : ℕ × ℕ) (k : ℕ) → k ≡ 0 → p ≡ (p .0, k + p .1)
+front-stands p k e = λ i. (p .0, at i)
+  where
+    at : p .1 ≡ k + p .1
+    at = omega (arith, e)
+
+pub part-stands : (p : ℕ × ℕ) (a k : ℕ) → a ≡ k → _≡_ {A = ℕ × ℕ} (p .0, a + p .1) (p .0, k + p .1)
+part-stands p a k e = λ i. (p .0, e i + p .1)

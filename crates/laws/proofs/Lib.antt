@@ -1,4 +1,5 @@
--- Laws about the definitions, file by file as those stand.
+-- Laws about the definitions, file by file as those stand; what answers say in the terms of document 01, and that each
+-- promise leaves one answer.
 pub mod Bytes
 pub mod Lists
 pub mod Numbers
@@ -6,3 +7,5 @@ pub mod Fields
 pub mod Sentences
 pub mod SentenceFields
 pub mod SentenceRecords
+pub mod Saying
+pub mod Single

@@ -3,12 +3,16 @@ use Prim.Native.Nat.{ℕ, _+_, _-_, _*_}
 use Prim.Native.Char.{code}
 use mathlib.Core.Bool.{Bool, _&&_, cond}
 use mathlib.Core.List.{List}
-use lib.Dec.{leb}
+use lib.Dec.{leb, ltb}
 use lib.ListN.{length}
 use Rattle.rules.specs.Bytes.{between, every}
 use Rattle.rules.specs.Numbers.{isDigit, decimal, padded, paddedNumber, pointed, pointedNumber}
 use Rattle.leaves.specs.declared.Digit.{Digit}
 use Rattle.leaves.specs.declared.Number.{Number}
+
+-- where a part from place a on stands: at the front where a is past the end
+abbrev pub placeIn : ℕ → List ℕ → ℕ
+placeIn a s = cond (ltb a (length s)) a 0
 
 -- a number where the text is one, else none and 0
 abbrev pub number : Bool → ℕ → Number

@@ -2,8 +2,8 @@
 // fields, and the sum of a packet. None asks anything of its caller.
 ghost use mathlib.Core.Path.{_≡_};
 ghost use Prim.Native.Nat.{_%_, _^_};
-ghost use Rattle.rules.specs.Bytes.{oneOf, same, part, total};
-ghost use Rattle.leaves.specs.Leaves.{digitIn, twoDigitsIn, digitsIn, paddedIn, pointedIn};
+ghost use Rattle.rules.specs.Bytes.{oneOf, same, part, PartOf, total};
+ghost use Rattle.leaves.specs.Leaves.{placeIn, digitIn, twoDigitsIn, digitsIn, paddedIn, pointedIn};
 
 // A number read from a text: the count is 0 where the text is none.
 pub struct Number {
@@ -17,9 +17,10 @@ pub struct Digit {
     pub value: u8,
 }
 
-// The n bytes from place a on, or what there is of them.
+// The n bytes from place a on, or what there is of them, as a part of the lent bytes. Where there is
+// none it is their empty front.
 pub fn text(s: &[u8], a: usize, n: usize) -> &[u8]
-    ensures { λ r. ⌜ now r ≡ part a n (now (s .entry)) ⌝ }
+    ensures { λ r. ⌜ PartOf (s .entry) (placeIn a (now (s .entry))) (part a n (now (s .entry))) r ⌝ }
 {
     if s.len() <= a {
         return &s[..0];

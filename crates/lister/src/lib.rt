@@ -8,7 +8,7 @@ ghost use mathlib.Core.Path.{_≡_};
 ghost use mathlib.Core.List.{_++_};
 ghost use Prim.Native.Nat.{_≤_};
 ghost use lib.ListN.{length, drop};
-ghost use Rattle.stream_rules.specs.Lister.{frames, startsOf, Lists, frameFrom};
+ghost use Rattle.stream_rules.specs.Lister.{frames, startsOf, Lists, NextFrame};
 
 // How many frames a capture holds.
 fn count_frames(family: u8, capture: &[u8]) -> usize
@@ -65,7 +65,7 @@ pub fn list_frames(family: u8, capture: &[u8], starts: &mut [u32]) -> Listed
 
 // The earliest good frame from a place on, as a part of the capture, or the empty part.
 pub fn next_frame(family: u8, capture: &[u8], place: usize) -> &[u8]
-    ensures { λ r. ⌜ now r ≡ frameFrom family (now (capture .entry)) place ⌝ }
+    ensures { λ r. ⌜ NextFrame family (capture .entry) place r ⌝ }
 {
     if !one_of(b"\x01\x02\x03", family) {
         return &capture[..0];

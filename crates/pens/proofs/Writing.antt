@@ -15,15 +15,16 @@ use Rattle.pens.proofs.Laid.{laid-front}
 
 module _ {allowed : Bool} {n : ℕ} {frame out : List ℕ} where
   pub refuses : allowed ≡ false → Writes allowed n frame out (Refused n) out
-  refuses e = record { answers = rw e; content = rw e }
+  refuses e = record { answers = rw e; says = rw e; content = rw e }
 
   pub has-no-room : allowed ≡ true → length out < length frame → Writes allowed n frame out (Refused noRoom) out
-  has-no-room e h = record { answers = rw (e, lt-leb _ _ h); content = rw (e, lt-leb _ _ h) }
+  has-no-room e h = record { answers = rw (e, lt-leb _ _ h); says = rw (e, lt-leb _ _ h); content = rw (e, lt-leb _ _ h) }
 
   pub writes : {after : List ℕ} {k : ℕ} → allowed ≡ true → length frame ≡ k → k ≤ length out → after ≡ laid 0 frame out → Writes allowed n frame out (Length k) after
   writes {after} {k} e size h laying =
       let fits : length frame ≤ length out = omega arith in record {
         answers = rw (e, le-leb _ _ fits, size);
+        says = rw (e, le-leb _ _ fits, size);
         content = laying ∙ laid-front frame out fits ∙ rw (e, le-leb _ _ fits);
       }
 

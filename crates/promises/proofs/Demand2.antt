@@ -3,7 +3,7 @@
 -- Assumes nothing.
 use Prim.Native.Nat.{ℕ, _≤_}
 use mathlib.Core.Path.{_≡_, refl, sym, ap, subst, _∙_}
-use mathlib.Core.Bool.{Bool, true, false, _&&_, cond, false≢true}
+use mathlib.Core.Bool.{true, false, _&&_, cond, false≢true}
 use mathlib.Core.List.{List, _++_}
 use mathlib.Core.Logic.{_↔_, ⊎-elim}
 use native.Mathlib.Omega.{arith}
@@ -200,12 +200,3 @@ module _ (f : Frame) (out : List ℕ) (r : Written) (after : List ℕ) (w : Writ
     w .answers ∙ (λ i. cond (e i) (cond (leb (length (bytesOf f)) (length out)) (Length (length (bytesOf f))) (NotWritten noRoom)) (NotWritten (notAllowed f))),
     w .content ∙ (λ i. cond (e i && leb (length (bytesOf f)) (length out)) (bytesOf f ++ drop (length (bytesOf f)) out) out),
   )
-
--- and two results that meet the statement are equal, in the answer and in the output.
-pub one-writing : (ok : Bool) (n : ℕ) (frame out : List ℕ) (r r′ : Written) (after after′ : List ℕ)
-    → Writes ok n frame out r after → Writes ok n frame out r′ after′ → (r ≡ r′) × (after ≡ after′)
-one-writing ok n frame out r r′ after after′ w w′ = (w .answers ∙ sym (w′ .answers), w .content ∙ sym (w′ .content))
-
--- Two results of the reader of one frame are equal.
-pub one-reading : (family : ℕ) (bs : List ℕ) (r r′ : Reading) → r ≡ readOne family bs → r′ ≡ readOne family bs → r ≡ r′
-one-reading family bs r r′ e e′ = e ∙ sym e′

@@ -1,17 +1,16 @@
 -- The answers: what a reader of one frame gives and what a writer gives and leaves, the refusals and their order.
 use Prim.Native.Nat.{ℕ}
 use mathlib.Core.Path.{_≡_}
-use mathlib.Core.Bool.{Bool, true, false, _&&_, cond}
+use mathlib.Core.Bool.{Bool, true, false, _&&_, cond, not}
 use mathlib.Core.List.{List, [], _∷_, _++_, map}
 use lib.Dec.{eqb, leb}
 use lib.IntN.{ℤ, pos}
 use lib.ListN.{length, drop, getD}
+use Rattle.rules.specs.Bytes.{oneOf}
 use Rattle.rules.specs.Codes.{isCode, isAckCode, isAck, isCommand, ack, command}
 use Rattle.rules.specs.Status.{isStatus, statusOf, dataOf, statusInRange, statusBytes}
-use Rattle.rules.specs.Sentences.{isSentence, payloadOf, numberOf, textsOf, is02, is03, is05, sentence02, sentence03, sentence05, inRange02, inRange03, inRange05, numbers02, numbers03, bytes02, bytes03, bytes05, enableBytes}
+use Rattle.rules.specs.Sentences.{isSentence, payloadOf, numberOf, textsOf, is02, is03, is05, sentence02, sentence03, sentence05, inRange02, inRange03, inRange05, numbers02, numbers03, bytes02, bytes03, bytes05}
 use Rattle.rules.specs.declared.Status as StatusType
-use Rattle.rules.specs.declared.Sentence02.{Sentence02}
-use Rattle.rules.specs.declared.Sentence03.{Sentence03}
 use Rattle.rules.specs.declared.Sentence05.{Sentence05}
 use Rattle.rules.specs.declared.Frame.{Frame}
 use Rattle.rules.specs.declared.Frame.the-variants.{Ack, Status, Command, Apa02, Apa03, Apa05, Other}
@@ -36,17 +35,13 @@ noRoom = 4
 abbrev pub notGood : ℕ
 notGood = 8
 
--- document 01's number of an answer: 0 where it is no refusal
-abbrev pub refusal : Reading → ℕ
-refusal (Good f) = 0
-refusal (Refused n) = n
+-- What an answer says in the terms of document 01: no, with its number only; or yes, with its values in their order.
+pub data Says : Type 0 where
+  no : ℕ → Says
+  yes : List ℤ → Says
 
-abbrev pub refusalToWrite : Written → ℕ
-refusalToWrite (Length n) = 0
-refusalToWrite (NotWritten n) = n
-
--- The values of a frame, in the order of document 01: of a status report its fields, of a sentence with a record its
--- numbers, of the others their code or number.
+-- The values of a frame: of a status report its fields, of a sentence with a record its numbers. An acknowledgement, a
+-- command and an "other" have none besides their code or number, which stands here.
 abbrev pub statusNumbers : StatusType.Status → List ℕ
 statusNumbers s =
     s .id ∷ s .state ∷ s .direction ∷ s .bank ∷ s .input ∷ s .band ∷ s .transmit ∷ s .tuner ∷ s .receive ∷ s .level
@@ -65,6 +60,15 @@ values (Apa03 r) = map pos (numbers03 r) ++ r .temp ∷ []
 values (Apa05 r) = map pos (numbers05 r)
 values (Other n) = pos n ∷ []
 
+-- each case of the answer of a reader of one frame, and of a writer
+abbrev pub said : Reading → Says
+said (Good f) = yes (values f)
+said (Refused n) = no n
+
+abbrev pub saidToWrite : Written → Says
+saidToWrite (Length n) = yes (pos n ∷ [])
+saidToWrite (NotWritten n) = no n
+
 -- One good frame, as a whole, or refusal 8. Family 1 is an acknowledgement or a status report:
 unfoldable pub readFamily1 : List ℕ → Reading
 readFamily1 bs =
@@ -73,7 +77,7 @@ readFamily1 bs =
     (Refused notGood))
 
 -- Family 2 is a sentence. One numbered 02, 03 or 05 that breaks its field rules is not good; one with another number is
--- handed out with its number and no values.
+-- handed out with its number and nothing else.
 unfoldable pub readTexts : ℕ → List (List ℕ) → Reading
 readTexts n ts =
     cond (eqb n 2) (cond (is02 ts) (Good (Apa02 (sentence02 ts))) (Refused notGood))
@@ -96,6 +100,17 @@ readOne family bs =
     (cond (eqb family 3) (readFamily3 bs)
     (Refused noFamily)))
 
+abbrev pub isFamily : ℕ → Bool
+isFamily family = oneOf (1 ∷ 2 ∷ 3 ∷ []) family
+
+abbrev pub valuesOr8 : Reading → Says
+valuesOr8 (Good f) = yes (values f)
+valuesOr8 (Refused n) = no notGood
+
+pub record Reads (family : ℕ) (bytes : List ℕ) (answer : Reading) : Type 0 where
+  pub answers : answer ≡ readOne family bytes
+  pub says : said answer ≡ cond (not (isFamily family)) (no noFamily) (valuesOr8 (readOne family bytes))
+
 -- A writer of a frame: refusal n where the code or the record is not allowed, then 4 where the lent output is shorter
 -- than the frame; else the frame's length. The frame stands at the front of the output, the bytes behind it are
 -- unchanged, and on a refusal all are.
@@ -107,6 +122,7 @@ leaves allowed frame out = cond (allowed && leb (length frame) (length out)) (fr
 
 pub record Writes (allowed : Bool) (n : ℕ) (frame out : List ℕ) (answer : Written) (after : List ℕ) : Type 0 where
   pub answers : answer ≡ written allowed n frame out
+  pub says : saidToWrite answer ≡ cond (not allowed) (no n) (cond (not (leb (length frame) (length out))) (no noRoom) (yes (pos (length frame) ∷ [])))
   pub content : after ≡ leaves allowed frame out
 
 -- What the writers know of a frame: the family that reads it, whether its code or record is allowed, and its bytes. An

@@ -1,12 +1,14 @@
 -- Words for lists of bytes. A byte is a number; where a rule names a character, the text is quoted.
-use Prim.Native.Nat.{ℕ, suc, _+_}
+use Prim.Native.Nat.{ℕ, _+_}
 use Prim.Native.Char.{code}
 use Prim.Native.String.{String}
 use Prim.Native.String as Text
+use mathlib.Core.Path.{_≡_}
 use mathlib.Core.Bool.{Bool, true, false, _&&_, _||_}
 use mathlib.Core.List.{List, [], _∷_}
 use lib.Dec.{eqb, leb}
 use lib.ListN.{take, drop, getD}
+use denote.Ref.{RefT, ptr, now}
 
 -- the bytes of a quoted text
 abbrev pub ascii : String → List ℕ
@@ -41,6 +43,12 @@ first bs = getD bs 0 0
 -- the n bytes from place a on
 abbrev pub part : ℕ → ℕ → List ℕ → List ℕ
 part a n bs = take n (drop a bs)
+
+-- A slice that is handed back as a part of a lent one: the bytes that it shows, and where it stands, so many places behind
+-- the front of the whole. A slice's `ptr` is a block of memory and a place in it.
+pub record PartOf (whole : RefT (List ℕ)) (place : ℕ) (bytes : List ℕ) (r : RefT (List ℕ)) : Type 0 where
+  pub content : now r ≡ bytes
+  pub stands : ptr r ≡ (ptr whole .0, place + ptr whole .1)
 
 -- the sum of the bytes
 unfoldable pub total : List ℕ → ℕ

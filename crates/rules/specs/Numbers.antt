@@ -1,10 +1,10 @@
 -- Numbers in fields: decimal digits, padded numbers, hexadecimal digits.
 use Prim.Native.Nat.{ℕ, zero, suc, _+_, _-_, _*_, _/_, _%_, _^_}
 use Prim.Native.Char.{code}
-use mathlib.Core.Bool.{Bool, true, false, _&&_, _||_, cond, not}
+use mathlib.Core.Bool.{Bool, false, _&&_, _||_, cond, not}
 use mathlib.Core.List.{List, [], _∷_, _++_}
-use lib.Dec.{eqb, leb, ltb}
-use lib.ListN.{length, take, drop, getD}
+use lib.Dec.{eqb, ltb}
+use lib.ListN.{take, drop, getD}
 use Rattle.rules.specs.Bytes.{between, every, first}
 
 abbrev pub isDigit : ℕ → Bool
@@ -27,7 +27,7 @@ unfoldable pub paddedNumber : List ℕ → ℕ
 paddedNumber [] = 0
 paddedNumber (b ∷ bs) = cond (eqb b (code " ")) (paddedNumber bs) (decimal (b ∷ bs))
 
--- A padded number in k bytes, a point, and digits behind it; the number counts the last digit's places.
+-- A padded number in k bytes, a point, and digits behind it; the number counts units of the last digit.
 -- The digit before the point may not be missing, so `  .00` is none.
 unfoldable pub pointed : ℕ → List ℕ → Bool
 pointed k text = padded (take k text) && eqb (getD text k 0) (code ".") && every isDigit (drop (suc k) text)

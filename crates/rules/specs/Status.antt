@@ -1,7 +1,7 @@
 -- The status report of an SPE amplifier: its frame, its data, and the rules of its nineteen fields.
 use Prim.Native.Nat.{ℕ, _+_, _-_, _/_, _%_}
 use Prim.Native.Char.{code}
-use mathlib.Core.Bool.{Bool, _&&_, _||_, cond}
+use mathlib.Core.Bool.{Bool, _&&_, cond}
 use mathlib.Core.List.{List, [], _∷_, _++_}
 use lib.Dec.{eqb, leb}
 use lib.ListN.{take, getD}
@@ -31,8 +31,8 @@ cut a (w ∷ ws) bs = part (a + 1) w bs ∷ cut (a + 1 + w) ws bs
 abbrev pub field : ℕ → List ℕ → List ℕ
 field k bs = getD (cut 0 widths bs) (k - 1) []
 
--- What the texts have to look like, so that each can be read. Fields 1 to 8: two digits and K; a digit; two digits; a
--- digit and a letter; a digit and r. A field of one letter has no other form.
+-- What the texts have to look like, so that each can be read. Field 1 is two digits and K; field 5 a digit; field 6 two
+-- digits; field 7 a digit and a letter; field 8 a digit and r. A field of one letter has no other form.
 abbrev pub frontReadable : List ℕ → Bool
 frontReadable d =
     every isDigit (take 2 (field 1 d)) && eqb (getD (field 1 d) 2 0) (code "K")

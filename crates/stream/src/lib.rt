@@ -23,7 +23,7 @@ ghost use mathlib.Core.Path.{_≡_};
 ghost use Prim.Native.Nat.{_%_, _^_, _≤_, _<_};
 ghost use Rattle.stream_rules.specs.Heads.{longest, head, atClose};
 ghost use Rattle.stream_rules.specs.Rule.{look};
-ghost use Rattle.stream_rules.specs.Streams.{heldOf, closedCall, fed, shut, fresh};
+ghost use Rattle.stream_rules.specs.Streams.{heldOf, closedCall, Feeds, Shuts, Makes};
 ghost use Rattle.stream.specs.Turns.{StepFits, fedBy, doneWith};
 
 // The number modulo 2^32.
@@ -134,7 +134,7 @@ fn drain(r: Reader) -> Fed
 
 // A call that offers bytes: a frame, or more wanted, or done; refusal 1, then 6, then 5.
 pub fn feed(r: Reader, offered: &[u8]) -> Fed
-    ensures { λ f. ⌜ f ≡ fed r (now (offered .entry)) ⌝ }
+    ensures { λ f. ⌜ Feeds r (now (offered .entry)) f ⌝ }
 {
     if !one_of(b"\x01\x02\x03", r.family) {
         return Fed {
@@ -164,7 +164,7 @@ pub fn feed(r: Reader, offered: &[u8]) -> Fed
 
 // Closes a reader; refusal 1, then 6. Closing it again changes nothing more.
 pub fn close(r: Reader) -> Turned
-    ensures { λ t. ⌜ t ≡ shut r ⌝ }
+    ensures { λ t. ⌜ Shuts r t ⌝ }
 {
     if !one_of(b"\x01\x02\x03", r.family) {
         return Turned {
@@ -197,7 +197,7 @@ pub fn close(r: Reader) -> Turned
 
 // A fresh reader of a family, or refusal 1 and a reader that every call refuses.
 pub fn fresh_reader(family: u8) -> Turned
-    ensures { λ t. ⌜ t ≡ fresh family ⌝ }
+    ensures { λ t. ⌜ Makes family t ⌝ }
 {
     let held = [0u8; 133];
     if !one_of(b"\x01\x02\x03", family) {

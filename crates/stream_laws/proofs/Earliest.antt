@@ -9,8 +9,9 @@ use native.Mathlib.Decide.{decLe}
 use native.Mathlib.Omega.{arith}
 use lib.ListN.{length, drop, length-drop}
 use lib.Seq.{drop-drop}
+use Rattle.rules.specs.Answers.{isFamily}
 use Rattle.rules.specs.declared.Frame.{Frame}
-use Rattle.stream_rules.specs.Heads.{Head, wait, bad, good, isFamily, longest, head}
+use Rattle.stream_rules.specs.Heads.{Head, wait, bad, good, longest, head}
 use Rattle.stream_rules.specs.Rule.{Found, rule}
 use Rattle.stream_rules.specs.Lister.{frames}
 use Rattle.stream_laws.specs.Earliest.{GoodAt, NoneBetween, EarliestFirst}

@@ -15,13 +15,13 @@ use Rattle.rules.specs.Bytes.{oneOf, every, total}
 use Rattle.rules.specs.Codes.{isCommand, isAck, isPacket, packet}
 use Rattle.rules.specs.Status.{isStatus, statusFrame, statusOf, dataOf}
 use Rattle.rules.specs.Sentences.{isPayloadByte, isPayload, isSentence, payloadOf, checkOf, numberOf, textsOf}
-use Rattle.rules.specs.Answers.{readOne, readFamily1, readFamily2, readFamily3, readTexts, notGood}
+use Rattle.rules.specs.Answers.{readOne, readFamily1, readFamily2, readFamily3, readTexts, notGood, isFamily}
 use Rattle.rules.specs.declared.Frame.{Frame}
 use Rattle.rules.specs.declared.Frame.the-variants.{Ack, Status, Command}
 use Rattle.rules.specs.declared.Reading.{Reading}
 use Rattle.rules.specs.declared.Reading.the-variants.{Good, Refused}
 use Rattle.laws.proofs.Bytes.{tests, same-eq, every-split, between-bounds}
-use Rattle.stream_rules.specs.Heads.{wait, good, isFamily, markOf, needs, payloadRun, spe-undecided, undecided, lengthAt, headOf, head}
+use Rattle.stream_rules.specs.Heads.{wait, good, markOf, needs, payloadRun, spe-undecided, undecided, lengthAt, headOf, head}
 
 -- What is good at the head is what the reader of one frame reads from as many bytes.
 head-of-good : (n m : ℕ) (f : Frame) (r : Reading) → headOf m r ≡ good n f → (m ≡ n) × (r ≡ Good f)

@@ -12,12 +12,12 @@ use lib.Dec.{leb}
 use lib.ListN.{length, take, drop, length-drop, length-map}
 use lib.Seq.{take-at}
 use Rattle.rules.specs.Bytes.{part}
-use Rattle.rules.specs.Answers.{readOne, noFamily, noRoom}
+use Rattle.rules.specs.Answers.{readOne, noFamily, noRoom, isFamily}
 use Rattle.rules.specs.declared.Reading.the-variants.{Good}
-use Rattle.stream_rules.specs.Heads.{Head, wait, bad, good, isFamily, longest, head, atClose}
+use Rattle.stream_rules.specs.Heads.{Head, wait, bad, good, longest, head, atClose}
 use Rattle.stream_rules.specs.Rule.{Found, Look, ready, waiting, byHead, byLook, look, rule}
 use Rattle.stream_rules.specs.Streams.{wrap, fresh}
-use Rattle.stream_rules.specs.Lister.{frames, startsOf, tooLong, fits, Lists, firstFrame}
+use Rattle.stream_rules.specs.Lister.{frames, startsOf, tooLong, fits, Lists, firstFrame, firstPlace}
 use Rattle.stream_rules.specs.declared.Answer.{Answer}
 use Rattle.stream_rules.specs.declared.Listed.the-variants.{Count, Refused}
 use Rattle.stream_rules.specs.declared.Turned.{Turned}
@@ -27,10 +27,14 @@ use Rattle.stream_laws.proofs.Finds.{head-reads}
 use Rattle.stream_laws.proofs.Looks.{found, drains, rule-drains}
 use Rattle.stream_laws.proofs.Sessions.{demand3}
 
--- the bytes of the first frame of a list, or none
+-- the bytes of the first frame of a list, or none; and its place, in bytes that begin at a place
 abbrev pub firstOf : List ℕ → List Found → List ℕ
 firstOf bs [] = []
 firstOf bs (f ∷ fs) = part (f .start) (f .size) bs
+
+abbrev pub firstPlaceOf : ℕ → List Found → ℕ
+firstPlaceOf from [] = 0
+firstPlaceOf from (f ∷ fs) = from + f .start
 
 -- it holds of each frame of a list
 abbrev pub Each : (Found → Type 0) → List Found → Type 0
@@ -120,6 +124,10 @@ first-drained : (h : List ℕ → Head) (bs : List ℕ) (l : Look) → byLook l 
 first-drained h bs (ready k n f behind) = ap (λ (i : ℕ). part i n bs) (sym (zero-add k))
 first-drained h bs (waiting k rest) = refl
 
+place-drained : (h : List ℕ → Head) (from : ℕ) (l : Look) → byLook l (λ k n f behind. from + k) (λ k rest. 0) ≡ firstPlaceOf from (drains h 0 0 l)
+place-drained h from (ready k n f behind) = ap (λ (i : ℕ). from + i) (sym (zero-add k))
+place-drained h from (waiting k rest) = refl
+
 module _ (family : ℕ) (facts : Facts (head family) (longest family)) where
   pub frames-inside : (bs : List ℕ) → Each (Inside family bs) (frames family bs)
   frames-inside bs = each-also (Stands (head family) 0 0 bs) (Inside family bs) inside (frames family bs) (rule-stands (head family) 0 0 0 bs)
@@ -150,6 +158,11 @@ module _ (family : ℕ) (facts : Facts (head family) (longest family)) where
   first-agrees bs =
       first-drained (head family) bs (look (atClose (head family)) bs)
       ∙ ap (firstOf bs) (sym (rule-drains (head family) (longest family) facts bs 0 0))
+
+  pub first-place-agrees : (bs : List ℕ) (from : ℕ) → firstPlace family bs from ≡ firstPlaceOf from (frames family bs)
+  first-place-agrees bs from =
+      place-drained (head family) from (look (atClose (head family)) bs)
+      ∙ ap (firstPlaceOf from) (sym (rule-drains (head family) (longest family) facts bs 0 0))
 
 -- Starts wrap as the frames do.
 starts-wrapped : (fs : List Found) → startsOf (map wrapped fs) ≡ map wrap (startsOf fs)

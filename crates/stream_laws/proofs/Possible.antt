@@ -8,7 +8,8 @@ use mathlib.Core.List.{List, [], _∷_, _++_}
 use native.Mathlib.Omega.{arith}
 use lib.ListN.{length, take, drop, length-drop}
 use lib.Seq.{drop-length, take-length}
-use Rattle.stream_rules.specs.Heads.{Head, isFamily, longest, head, atClose}
+use Rattle.rules.specs.Answers.{isFamily}
+use Rattle.stream_rules.specs.Heads.{Head, longest, head, atClose}
 use Rattle.stream_rules.specs.Rule.{Look, ready, waiting, look, Call, gives, wants, call}
 use Rattle.stream_rules.specs.Streams.{wrap, holding, fed, shut, fresh}
 use Rattle.stream_rules.specs.declared.Reader.{Reader}

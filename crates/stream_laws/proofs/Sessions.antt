@@ -10,9 +10,10 @@ use native.Mathlib.Nat.{add-zero}
 use native.Mathlib.Omega.{arith}
 use lib.ListN.{length, take, drop, length-take, length-drop, take-append-drop}
 use lib.Seq.{drop-append-le, drop-length}
+use Rattle.rules.specs.Answers.{isFamily}
 use Rattle.rules.specs.Bytes.{every}
 use Rattle.rules.specs.declared.Frame.{Frame}
-use Rattle.stream_rules.specs.Heads.{Head, isFamily, longest, head, atClose}
+use Rattle.stream_rules.specs.Heads.{Head, longest, head, atClose}
 use Rattle.stream_rules.specs.Rule.{Found, Look, ready, waiting, look, rule, Call, gives, wants, call}
 use Rattle.stream_rules.specs.Streams.{wrap, holding, openCall, closedCall, fed, shut, fresh}
 use Rattle.stream_rules.specs.declared.Reader.{Reader}

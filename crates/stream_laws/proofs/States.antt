@@ -10,8 +10,8 @@ use borrow.Author.Tests.{le-leb, lt-leb, leb-true, leb-false, eq-eqb, ne-eqb, eq
 use lib.Dec.{eqb, leb}
 use lib.ListN.{length, replicate, length-append, length-replicate, length-take}
 use lib.Seq.{take-append-seam}
-use Rattle.rules.specs.Answers.{noFamily}
-use Rattle.stream_rules.specs.Heads.{isFamily, longest, head, atClose}
+use Rattle.rules.specs.Answers.{noFamily, isFamily}
+use Rattle.stream_rules.specs.Heads.{longest, head, atClose}
 use Rattle.stream_rules.specs.Rule.{Look, ready, waiting, look, Call, gives, wants, call}
 use Rattle.stream_rules.specs.Streams.{wrap, holds, heldOf, holding, isClosed, holdsTooMuch, refuse, goOn, openCall, closedCall, fed, shut, fresh}
 use Rattle.stream_rules.specs.declared.Reader.{Reader}

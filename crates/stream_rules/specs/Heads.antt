@@ -5,15 +5,12 @@ use mathlib.Core.Bool.{Bool, true, _&&_, _||_, cond}
 use mathlib.Core.List.{List, [], _∷_}
 use lib.Dec.{eqb, leb, ltb}
 use lib.ListN.{length, take, drop, getD}
-use Rattle.rules.specs.Bytes.{oneOf, every}
+use Rattle.rules.specs.Bytes.{every}
 use Rattle.rules.specs.Sentences.{isPayloadByte}
 use Rattle.rules.specs.Answers.{readOne}
 use Rattle.rules.specs.declared.Frame.{Frame}
 use Rattle.rules.specs.declared.Reading.{Reading}
 use Rattle.rules.specs.declared.Reading.the-variants.{Good, Refused}
-
-abbrev pub isFamily : ℕ → Bool
-isFamily family = oneOf (1 ∷ 2 ∷ 3 ∷ []) family
 
 -- The longest frame: 75 bytes of an SPE reply, 134 of a sentence, 6 of a command.
 abbrev pub longest : ℕ → ℕ
@@ -49,7 +46,8 @@ sentence-undecided (b ∷ bs) = eqb b (code "$") && leb (length (payloadRun bs))
 unfoldable pub undecided : ℕ → List ℕ → Bool
 undecided family bs = cond (eqb family 2) (sentence-undecided bs) (spe-undecided family bs)
 
--- How long a frame at the head would be: as long as its count needs, or its payload with `$`, `*` and four digits.
+-- How long a frame at the head would be: as long as its count needs, or its payload with `$`, `*` and four digits. It is
+-- 0 where no frame can stand there, and no bytes are no frame.
 abbrev pub lengthAt : ℕ → List ℕ → ℕ
 lengthAt family bs = cond (eqb family 2) (length (payloadRun (drop 1 bs)) + 6) (needs family (getD bs 3 0))
 

@@ -5,10 +5,11 @@ use mathlib.Core.Bool.{Bool, _&&_, cond, not}
 use mathlib.Core.List.{List, [], _∷_, _++_, map}
 use lib.Dec.{eqb, leb, ltb}
 use lib.ListN.{length, drop}
-use Rattle.rules.specs.Answers.{noFamily, noRoom}
-use Rattle.rules.specs.Bytes.{part}
-use Rattle.rules.specs.declared.Frame.{Frame}
-use Rattle.stream_rules.specs.Heads.{isFamily, head, atClose}
+use lib.IntN.{pos}
+use Rattle.rules.specs.Answers.{Says, no, yes, noFamily, noRoom, isFamily}
+use denote.Ref.{RefT, now}
+use Rattle.rules.specs.Bytes.{part, PartOf}
+use Rattle.stream_rules.specs.Heads.{head, atClose}
 use Rattle.stream_rules.specs.Rule.{Found, rule, look, byLook}
 use Rattle.stream_rules.specs.declared.Listed.{Listed}
 use Rattle.stream_rules.specs.declared.Listed.the-variants.{Count, Refused}
@@ -38,6 +39,10 @@ listed family capture out =
     (cond (not (leb (length (frames family capture)) (length out))) (Refused noRoom)
     (Count (length (frames family capture)))))
 
+abbrev pub saidToList : Listed → Says
+saidToList (Count n) = yes (pos n ∷ [])
+saidToList (Refused n) = no n
+
 abbrev pub listLeft : ℕ → List ℕ → List ℕ → List ℕ
 listLeft family capture out =
     cond (isFamily family && fits capture && leb (length (frames family capture)) (length out))
@@ -46,15 +51,30 @@ listLeft family capture out =
 
 pub record Lists (family : ℕ) (capture out : List ℕ) (answer : Listed) (after : List ℕ) : Type 0 where
   pub answers : answer ≡ listed family capture out
+  pub says : saidToList answer
+      ≡ cond (not (isFamily family)) (no noFamily)
+      (cond (not (fits capture)) (no tooLong)
+      (cond (not (leb (length (frames family capture)) (length out))) (no noRoom)
+      (yes (pos (length (frames family capture)) ∷ []))))
   pub content : after ≡ listLeft family capture out
 
--- The earliest good frame of a list of bytes, as a part of it; the empty part where there is none.
+-- The bytes of the earliest good frame of a list of bytes, none where there is none; and its place.
 abbrev pub firstFrame : ℕ → List ℕ → List ℕ
 firstFrame family bs = byLook (look (atClose (head family)) bs) (λ k n f behind. part k n bs) (λ k rest. [])
 
--- The second entry: from a place on; also empty where the place is beyond the end, or refusal 1 or 7 would apply.
+abbrev pub firstPlace : ℕ → List ℕ → ℕ → ℕ
+firstPlace family bs from = byLook (look (atClose (head family)) bs) (λ k n f behind. from + k) (λ k rest. 0)
+
+-- The second entry: from a place on; also empty where the place is beyond the end, or refusal 1 or 7 would apply. The frame
+-- is handed back as a part of the capture, and the empty part is the capture's front.
 unfoldable pub frameFrom : ℕ → List ℕ → ℕ → List ℕ
 frameFrom family capture place = cond (isFamily family && fits capture && leb place (length capture)) (firstFrame family (drop place capture)) []
+
+unfoldable pub placeFrom : ℕ → List ℕ → ℕ → ℕ
+placeFrom family capture place = cond (isFamily family && fits capture && leb place (length capture)) (firstPlace family (drop place capture) place) 0
+
+abbrev pub NextFrame : ℕ → RefT (List ℕ) → ℕ → RefT (List ℕ) → Type 0
+NextFrame family capture place r = PartOf capture (placeFrom family (now capture) place) (frameFrom family (now capture) place) r
 
 -- Of two stamps a and b, a is earlier when b minus a modulo 2^32 is 1 to 2^31 - 1, later when it is above 2^31, equal at
 -- 0, and it can't be said at exactly 2^31.

@@ -20,7 +20,8 @@ pub record Found : Type 0 where
   pub frame : Frame
 
 -- The rule: the good frame that begins earliest, then on right behind it, and so on. `inside` bytes still belong to the
--- last frame found, `at` is the place of the first byte, and `skipped` bytes were passed over since that frame.
+-- last frame found, `at` is the place of the first byte, and `skipped` bytes were passed over since that frame. The bytes
+-- are the whole stream, as at close, so an undecided start is passed over like a bad one.
 unfoldable pub rule : (List ℕ → Head) → ℕ → ℕ → ℕ → List ℕ → List Found
 rule h inside at skipped [] = []
 rule h (suc inside) at skipped (b ∷ bs) = rule h inside (suc at) skipped bs

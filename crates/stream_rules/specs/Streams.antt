@@ -1,17 +1,20 @@
 -- The stream reader: its state, the answers of its calls, and its refusals in their order.
 use Prim.Native.Nat.{ℕ, _+_, _-_, _%_, _^_}
-use mathlib.Core.Bool.{Bool, _&&_, cond, not}
+use mathlib.Core.Path.{_≡_}
+use mathlib.Core.Bool.{_&&_, cond, not}
 use mathlib.Core.List.{List, [], _∷_, _++_}
 use lib.Dec.{eqb, leb}
 use lib.ListN.{length, take, replicate}
-use Rattle.rules.specs.Answers.{noFamily}
+use lib.IntN.{ℤ, pos}
+use Rattle.rules.specs.Answers.{Says, no, yes, noFamily, isFamily, values}
 use Rattle.rules.specs.declared.Frame.{Frame}
-use Rattle.stream_rules.specs.Heads.{isFamily, longest, head, atClose}
-use Rattle.stream_rules.specs.Rule.{Look, ready, waiting, look, Call, gives, wants, call, byLook}
+use Rattle.stream_rules.specs.Heads.{longest, head, atClose}
+use Rattle.stream_rules.specs.Rule.{Look, ready, waiting, look, Call, gives, wants, call}
 use Rattle.stream_rules.specs.declared.Reader.{Reader}
 use Rattle.stream_rules.specs.declared.Answer.{Answer}
 use Rattle.stream_rules.specs.declared.Answer.the-variants.{Ready, More, Done, Refused}
 use Rattle.stream_rules.specs.declared.Fed.{Fed}
+use Rattle.stream_rules.specs.declared.Outcome.{Outcome}
 use Rattle.stream_rules.specs.declared.Outcome.the-variants.{Accepted, Refused as NotAccepted}
 use Rattle.stream_rules.specs.declared.Turned.{Turned}
 
@@ -44,6 +47,24 @@ isClosed = 5
 
 abbrev pub holdsTooMuch : ℕ
 holdsTooMuch = 6
+
+-- What the answers say in the terms of document 01. The values of a call: the bytes taken; with a frame also its start, the
+-- bytes skipped, its length, and the frame's own values.
+abbrev pub valuesFed : Answer → List ℤ
+valuesFed (Ready r) = pos (r .taken) ∷ pos (r .start) ∷ pos (r .skipped) ∷ pos (r .length) ∷ values (r .frame)
+valuesFed (More n) = pos n ∷ []
+valuesFed (Done n) = pos n ∷ []
+valuesFed (Refused n) = []
+
+abbrev pub saidToFeed : Answer → Says
+saidToFeed (Ready r) = yes (valuesFed (Ready r))
+saidToFeed (More n) = yes (valuesFed (More n))
+saidToFeed (Done n) = yes (valuesFed (Done n))
+saidToFeed (Refused n) = no n
+
+abbrev pub saidToTurn : Outcome → Says
+saidToTurn Accepted = yes []
+saidToTurn (NotAccepted n) = no n
 
 -- A frame comes with its start and the bytes skipped since the last frame; the reader keeps what it took behind it.
 abbrev pub handOut : Reader → ℕ → ℕ → ℕ → Frame → List ℕ → Fed
@@ -87,6 +108,14 @@ fed r offered =
     (cond (not (eqb (length offered) 0)) (refuse r isClosed)
     (closedCall r (look (atClose (head (r .family))) (heldOf r))))))
 
+pub record Feeds (r : Reader) (offered : List ℕ) (f : Fed) : Type 0 where
+  pub answers : f ≡ fed r offered
+  pub says : saidToFeed (f .answer)
+      ≡ cond (not (isFamily (r .family))) (no noFamily)
+      (cond (not (leb (r .count) (holds (r .family)))) (no holdsTooMuch)
+      (cond (not (eqb (r .closed) 0) && not (eqb (length offered) 0)) (no isClosed)
+      (yes (valuesFed (fed r offered .answer)))))
+
 -- Closing: refusal 1, then 6. Closing twice is as once.
 unfoldable pub shut : Reader → Turned
 shut r =
@@ -94,8 +123,19 @@ shut r =
     (cond (not (leb (r .count) (holds (r .family)))) (record { reader = r; outcome = NotAccepted holdsTooMuch })
     (record { reader = holding (r .family) 1 (heldOf r) (r .at) (r .skipped); outcome = Accepted }))
 
+pub record Shuts (r : Reader) (t : Turned) : Type 0 where
+  pub answers : t ≡ shut r
+  pub says : saidToTurn (t .outcome)
+      ≡ cond (not (isFamily (r .family))) (no noFamily)
+      (cond (not (leb (r .count) (holds (r .family)))) (no holdsTooMuch)
+      (yes []))
+
 -- A fresh reader of a family; where there is no such family, one that every call refuses.
 unfoldable pub fresh : ℕ → Turned
 fresh family =
     cond (isFamily family) (record { reader = holding family 0 [] 0 0; outcome = Accepted })
     (record { reader = holding 0 0 [] 0 0; outcome = NotAccepted noFamily })
+
+pub record Makes (family : ℕ) (t : Turned) : Type 0 where
+  pub answers : t ≡ fresh family
+  pub says : saidToTurn (t .outcome) ≡ cond (not (isFamily family)) (no noFamily) (yes [])

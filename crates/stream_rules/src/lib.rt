@@ -2,10 +2,10 @@
 // them stand in specs/.
 use rules::Frame;
 
-// A reader of one family's stream. Every value of it is a legal argument.
+// A reader of one family's stream. Every value of it is a legal argument: the calls answer or refuse.
 pub struct Reader {
     pub family: u8,
-    // 0 until it is closed
+    // 0 until it is closed; any other value is closed
     pub closed: u8,
     // how many of the held places are used, from the first on
     pub count: u8,

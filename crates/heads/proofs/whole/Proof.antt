@@ -1,21 +1,16 @@
 -- `heads::whole` meets its contract: a frame that was read is a good one, and a refusal a bad start.
 -- Assumes nothing.
-use Prim.Native.Nat.{ℕ}
 use mathlib.Core.Path.{_≡_, sym, ap, _∙_}
-use mathlib.Core.List.{List}
 use lib.ListN.{take}
 use borrow.Author.Needs.{needs}
 use Rattle.rules.specs.Answers.{readOne}
-use Rattle.rules.specs.declared.Frame.{Frame}
-use Rattle.rules.specs.declared.Reading.{Reading}
-use Rattle.rules.specs.declared.Reading.the-variants.{Good, Refused}
 use Rattle.heads.specs.Seen.{asWhole, wholeIn}
 use Rattle.heads.proofs.whole.Statement.{statement}
 use Rattle.heads.proofs.whole.Tie as tie
 
 -- what was read of the n bytes
 read : (c : tie.After-read-frame) → c .read-frame .result ≡ readOne (c .before .before .before .args .family) (take (c .before .before .before .args .n) (c .before .before .before .args .s .now))
-read c = c .read-frame .ensures ∙ ap (readOne (c .before .before .before .args .family)) (c .before .text .ensures)
+read c = c .read-frame .ensures .answers ∙ ap (readOne (c .before .before .before .args .family)) (c .before .text .ensures .content)
 
 text-requires : tie.Need-text-requires
 text-requires c κs = search needs

@@ -2,12 +2,12 @@
 -- behind it a row of 1 or 2 digits, and the whole counts the last digit's places.
 -- Assumes nothing.
 use Prim.Native.Nat.{ℕ, _+_, _-_, _*_, _^_, _≤_, _<_}
-use mathlib.Core.Path.{_≡_, refl, sym, ap, subst, _∙_}
-use mathlib.Core.Bool.{Bool, true, false, _&&_, cond, not, and-false}
+use mathlib.Core.Path.{_≡_, sym, ap, subst, _∙_}
+use mathlib.Core.Bool.{Bool, true, false, _&&_, and-false}
 use mathlib.Core.List.{List}
 use native.Mathlib.Omega.{arith}
 use borrow.Author.Needs.{needs}
-use borrow.Author.Tests.{le-leb, lt-leb, not-true, not-false}
+use borrow.Author.Tests.{lt-leb, not-true, not-false}
 use lib.Dec.{eqb, leb}
 use lib.ListN.{length, take, drop, getD, length-drop}
 use lib.Seq.{take-all, length-take-le}
@@ -95,10 +95,10 @@ module _ (t : List ℕ) (h : 4 ≤ length t) (k : length t ≤ 5) (p q : Number)
 -- the same where both parts have been read
 module _ (d : tie.After-digits) where
   front : d .before .before .padded-number .result ≡ paddedIn (part 0 2 (d .before .before .before .before .before .before .before .args .t .now))
-  front = d .before .before .padded-number .ensures ∙ ap paddedIn (d .before .before .before .text .ensures)
+  front = d .before .before .padded-number .ensures ∙ ap paddedIn (d .before .before .before .text .ensures .content)
 
   back : d .digits .result ≡ digitsIn (part 3 2 (d .before .before .before .before .before .before .before .args .t .now))
-  back = d .digits .ensures ∙ ap digitsIn (d .before .text2 .ensures)
+  back = d .digits .ensures ∙ ap digitsIn (d .before .text2 .ensures .content)
 
 -- the two counts are small where the parts are good
 front-small : (g : tie.Else3) → g .before .before .before .before .before .before .padded-number .result .count < 100

@@ -2,14 +2,16 @@
 -- is what `part` takes.
 -- Assumes nothing.
 use Prim.Native.Nat.{ℕ, _-_, _≤_, _<_}
-use mathlib.Core.Path.{_≡_, refl, sym, ap, _∙_}
+use mathlib.Core.Path.{_≡_, sym, ap, _∙_}
 use mathlib.Core.List.{List, []}
 use native.Mathlib.Nat.{add-sub-cancel-left}
 use native.Mathlib.Omega.{arith}
 use borrow.Author.Needs.{needs}
+use borrow.Author.Tests.{lt-ltb, le-ltb}
 use lib.ListN.{length, take, drop, length-drop, drop-of-length-le}
 use lib.Seq.{take-all, take-nil}
 use Rattle.rules.specs.Bytes.{part}
+use Rattle.laws.proofs.Bytes.{front-stands, part-stands}
 use Rattle.leaves.proofs.text.Statement.{statement}
 use Rattle.leaves.proofs.text.Tie as tie
 
@@ -29,7 +31,7 @@ slice-aggregate-result c = search needs
 returns : tie.Need-returns
 returns c =
     let a = c .before .before .args in
-    past (a .s .now) (a .a) (a .n) (c .before .if1 .taken)
+    record { content = past (a .s .now) (a .a) (a .n) (c .before .if1 .taken); stands = front-stands (a .s .ptr) _ (rw (le-ltb (a .a) (length (a .s .now)) (c .before .if1 .taken))) }
 
 sub-if2 : tie.Need-sub-if2
 sub-if2 c = search needs
@@ -46,7 +48,7 @@ part-result-end c = search needs
 returns-2 : tie.Need-returns-2
 returns-2 c =
     let a = c .before .before .before .args in
-    short (a .s .now) (a .a) (a .n) (c .before .if2 .taken)
+    record { content = short (a .s .now) (a .a) (a .n) (c .before .if2 .taken); stands = part-stands (a .s .ptr) (a .a) _ (rw (lt-ltb (a .a) (length (a .s .now)) (c .before .before .if1 .left))) }
 
 add-result : tie.Need-add-result
 add-result c = search needs
@@ -63,7 +65,7 @@ part-result-end-2 c = search needs
 returns-3 : tie.Need-returns-3
 returns-3 c =
     let a = c .before .before .before .args in
-    ap (λ (k : ℕ). part (a .a) k (a .s .now)) (add-sub-cancel-left (a .a) (a .n))
+    record { content = ap (λ (k : ℕ). part (a .a) k (a .s .now)) (add-sub-cancel-left (a .a) (a .n)); stands = part-stands (a .s .ptr) (a .a) _ (rw (lt-ltb (a .a) (length (a .s .now)) (c .before .before .if1 .left))) }
 
 pub text-spec : {M : Type 1} → statement M
 text-spec =

@@ -1,7 +1,7 @@
 -- `lister::list_frames` meets its contract: its three tests are the refusals, in their order.
 -- Assumes nothing.
-use Prim.Native.Nat.{ℕ, _≤_, _<_}
-use mathlib.Core.Path.{_≡_, refl, sym, ap, _∙_}
+use Prim.Native.Nat.{ℕ}
+use mathlib.Core.Path.{_≡_, sym, ap, _∙_}
 use mathlib.Core.Bool.{Bool, true, false, _&&_, cond, not}
 use mathlib.Core.List.{List, _++_}
 use native.Mathlib.Omega.{arith}
@@ -9,10 +9,11 @@ use borrow.Author.Needs.{needs}
 use borrow.Author.Tests.{not-true, not-false, le-leb, lt-leb}
 use lib.Dec.{leb}
 use lib.ListN.{length, drop}
-use Rattle.stream_rules.specs.Heads.{isFamily}
-use Rattle.stream_rules.specs.Lister.{frames, startsOf, fits, listed, listLeft, Lists}
+use Rattle.rules.specs.Answers.{isFamily}
+use Rattle.stream_rules.specs.Lister.{frames, startsOf, fits, Lists}
 use Rattle.stream_rules.specs.declared.Listed.{Listed}
 use Rattle.stream_rules.specs.declared.Listed.the-variants.{Count, Refused}
+use Rattle.stream_laws.proofs.Saying.{lists}
 use Rattle.lister.proofs.list_frames.Statement.{statement}
 use Rattle.lister.proofs.list_frames.Tie as tie
 
@@ -28,20 +29,18 @@ module _ (family : ℕ) (bs out : List ℕ) where
   after f g r = cond (f && g && r) (startsOf (frames family bs) ++ drop (length (frames family bs)) out) out
 
   no-family : isFamily family ≡ false → Lists family bs out (Refused 1) out
-  no-family e = record { answers = λ i. answer (sym e i) (fits bs) room; content = λ i. after (sym e i) (fits bs) room }
+  no-family e = lists (λ i. answer (sym e i) (fits bs) room) (λ i. after (sym e i) (fits bs) room)
 
   too-long : isFamily family ≡ true → fits bs ≡ false → Lists family bs out (Refused 7) out
-  too-long e g = record { answers = λ i. answer (sym e i) (sym g i) room; content = λ i. after (sym e i) (sym g i) room }
+  too-long e g = lists (λ i. answer (sym e i) (sym g i) room) (λ i. after (sym e i) (sym g i) room)
 
   no-room : isFamily family ≡ true → fits bs ≡ true → room ≡ false → Lists family bs out (Refused 4) out
-  no-room e g r = record { answers = λ i. answer (sym e i) (sym g i) (sym r i); content = λ i. after (sym e i) (sym g i) (sym r i) }
+  no-room e g r = lists (λ i. answer (sym e i) (sym g i) (sym r i)) (λ i. after (sym e i) (sym g i) (sym r i))
 
-  lists : isFamily family ≡ true → fits bs ≡ true → room ≡ true → (n : ℕ) (left : List ℕ) → n ≡ length (frames family bs)
+  counts : isFamily family ≡ true → fits bs ≡ true → room ≡ true → (n : ℕ) (left : List ℕ) → n ≡ length (frames family bs)
       → left ≡ startsOf (frames family bs) ++ drop (length (frames family bs)) out → Lists family bs out (Count n) left
-  lists e g r n left count content = record {
-    answers = ap Count count ∙ (λ i. answer (sym e i) (sym g i) (sym r i));
-    content = content ∙ (λ i. after (sym e i) (sym g i) (sym r i));
-  }
+  counts e g r n left count content =
+      lists (ap Count count ∙ (λ i. answer (sym e i) (sym g i) (sym r i))) (content ∙ (λ i. after (sym e i) (sym g i) (sym r i)))
 
 -- where the family's test has been passed
 a-family : (c : tie.Else1) → isFamily (c .before .before .before .before .before .args .family) ≡ true
@@ -84,7 +83,7 @@ returns-4 : tie.Need-returns-4
 returns-4 c =
     let a = c .before .before .before .before .before .before .before .before .before .before .before .before .args in
     let n = length (frames (a .family) (a .capture .now)) in
-    lists (a .family) (a .capture .now) (a .starts .now) (a-family (c .before .before .before .before .before .before .before))
+    counts (a .family) (a .capture .now) (a .starts .now) (a-family (c .before .before .before .before .before .before .before))
     (le-leb (length (a .capture .now)) 65536 (c .before .before .before .before .before .before .if2 .left))
     (le-leb n (length (a .starts .now)) (omega (arith, c .before .before .before .before .before .count-frames .ensures)))
     _ _ (c .before .before .before .before .before .count-frames .ensures) (c .before .before .fill-starts .ensures)

@@ -1,8 +1,8 @@
 -- `spe::is_report` meets its contract: 75 bytes are four that stand in front, the data and four that stand behind, and the
 -- data is the same as itself. The sum of 67 bytes does not wrap.
 -- Assumes nothing.
-use Prim.Native.Nat.{ℕ, _+_, _*_, _/_, _%_, _^_, _≤_, _<_}
-use mathlib.Core.Path.{_≡_, refl, sym, ap, subst, _∙_}
+use Prim.Native.Nat.{ℕ, _+_, _/_, _%_, _^_}
+use mathlib.Core.Path.{_≡_, sym, ap, _∙_}
 use mathlib.Core.Bool.{Bool, true, false, _&&_, and-assoc, and-true, and-false, and-comm}
 use mathlib.Core.List.{List, [], _∷_, _++_}
 use native.Mathlib.Nat.{mod-eq-of-lt}
@@ -10,7 +10,7 @@ use native.Mathlib.Omega.{arith}
 use borrow.Author.Needs.{needs}
 use borrow.Author.Tests.{not-true, not-false}
 use lib.Dec.{eqb}
-use lib.ListN.{length, take, drop, getD, take-append-drop}
+use lib.ListN.{length, drop, getD, take-append-drop}
 use lib.Seq.{drop-drop}
 use Rattle.rules.specs.Bytes.{same, total}
 use Rattle.rules.specs.Status.{statusFrame, dataOf}
@@ -112,7 +112,7 @@ returns-4 c =
     let d = c .before .before .before .before .before .before in
     let one = d .before .before .before .before .before .before .before .before in
     let s = one .before .before .args .s .now in
-    let total-is = exact s (one .if1 .left) (λ k. one .before .shared-slice-known .given k .fits) _ (c .before .before .before .before .sum .ensures ∙ ap (λ (l : List ℕ). total l % 2 ^ 32) (c .before .before .before .before .before .text .ensures)) in
+    let total-is = exact s (one .if1 .left) (λ k. one .before .shared-slice-known .given k .fits) _ (c .before .before .before .before .sum .ensures ∙ ap (λ (l : List ℕ). total l % 2 ^ 32) (c .before .before .before .before .before .text .ensures .content)) in
     (λ i. eqb (c .before .before .wide .ensures i) (total-is i % 256) && eqb (c .wide2 .ensures i) (total-is i / 256))
     ∙ sym (good-ends s (one .if1 .left) (not-false _ (d .before .before .before .if2 .left)) (not-false _ (d .if3 .left)))
 

@@ -1,8 +1,8 @@
 -- `spe::read_meters` meets its contract: each text has its field's width, so what the leaf says of it is what the rule says.
 -- Assumes nothing.
 use Prim.Native.Nat.{ℕ, _+_, _≤_}
-use mathlib.Core.Path.{_≡_, sym, ap, subst, _∙_}
-use mathlib.Core.Bool.{Bool, true, _&&_}
+use mathlib.Core.Path.{_≡_, ap, _∙_}
+use mathlib.Core.Bool.{_&&_}
 use mathlib.Core.List.{List}
 use native.Mathlib.Omega.{arith}
 use borrow.Author.Needs.{needs}
@@ -128,14 +128,14 @@ returns c =
     let c10 = c11 .before .before in
     let start = c10 .before .before .before in
     read (start .args .d .now) (start .pre) _ _ _ _ _ _ _ _
-    (c10 .padded-number .ensures ∙ ap paddedIn (c10 .before .text .ensures))
-    (c11 .pointed-number .ensures ∙ ap pointedIn (c11 .before .text2 .ensures))
-    (c12 .pointed-number2 .ensures ∙ ap pointedIn (c12 .before .text3 .ensures))
-    (c13 .pointed-number3 .ensures ∙ ap pointedIn (c13 .before .text4 .ensures))
-    (c14 .pointed-number4 .ensures ∙ ap pointedIn (c14 .before .text5 .ensures))
-    (c15 .padded-number2 .ensures ∙ ap paddedIn (c15 .before .text6 .ensures))
-    (c16 .padded-number3 .ensures ∙ ap paddedIn (c16 .before .text7 .ensures))
-    (c17 .padded-number4 .ensures ∙ ap paddedIn (c17 .before .text8 .ensures))
+    (c10 .padded-number .ensures ∙ ap paddedIn (c10 .before .text .ensures .content))
+    (c11 .pointed-number .ensures ∙ ap pointedIn (c11 .before .text2 .ensures .content))
+    (c12 .pointed-number2 .ensures ∙ ap pointedIn (c12 .before .text3 .ensures .content))
+    (c13 .pointed-number3 .ensures ∙ ap pointedIn (c13 .before .text4 .ensures .content))
+    (c14 .pointed-number4 .ensures ∙ ap pointedIn (c14 .before .text5 .ensures .content))
+    (c15 .padded-number2 .ensures ∙ ap paddedIn (c15 .before .text6 .ensures .content))
+    (c16 .padded-number3 .ensures ∙ ap paddedIn (c16 .before .text7 .ensures .content))
+    (c17 .padded-number4 .ensures ∙ ap paddedIn (c17 .before .text8 .ensures .content))
 
 pub read-meters-spec : {M : Type 1} → statement M
 read-meters-spec =

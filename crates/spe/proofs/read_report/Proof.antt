@@ -23,19 +23,19 @@ module _ (t : tie.After-text) where
   good-frame = sym (t .before .before .is-report .ensures) ∙ not-false _ (t .before .if1 .left)
 
   data-length : length (t .text .result .now) ≡ 67
-  data-length = ap length (t .text .ensures) ∙ framed-data _ good-frame
+  data-length = ap length (t .text .ensures .content) ∙ framed-data _ good-frame
 
 -- where the commas have been looked at, the test is that of the data
 commas-is : (h : tie.After-has-commas) → h .has-commas .result ≡ commas (h .before .before .before .before .before .args .s .now)
-commas-is h = h .has-commas .ensures ∙ ap (λ (l : List ℕ). same l (joined (cut 0 widths l))) (h .before .text .ensures)
+commas-is h = h .has-commas .ensures ∙ ap (λ (l : List ℕ). same l (joined (cut 0 widths l))) (h .before .text .ensures .content)
 
 -- where the fields have been read, the texts' test is that of the data, and so are their values
 module _ (f : tie.After-read-fields) where
   readable-is : f .read-fields .result .readable ≡ readable (dataOf (f .before .before .before .before .before .before .before .args .s .now))
-  readable-is = f .read-fields .ensures .can ∙ ap readable (f .before .before .before .text .ensures)
+  readable-is = f .read-fields .ensures .can ∙ ap readable (f .before .before .before .text .ensures .content)
 
   status-is : f .read-fields .result .readable ≡ true → f .read-fields .result .status ≡ statusOf (dataOf (f .before .before .before .before .before .before .before .args .s .now))
-  status-is g = f .read-fields .ensures .values g ∙ ap statusOf (f .before .before .before .text .ensures)
+  status-is g = f .read-fields .ensures .values g ∙ ap statusOf (f .before .before .before .text .ensures .content)
 
 is-report-requires : tie.Need-is-report-requires
 is-report-requires c κs = search needs

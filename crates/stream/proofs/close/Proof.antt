@@ -7,12 +7,14 @@ use native.Mathlib.Omega.{arith}
 use borrow.Author.Needs.{needs}
 use borrow.Author.Tests.{not-true, not-false}
 use lib.ListN.{length, length-take}
-use Rattle.stream_rules.specs.Heads.{isFamily, head}
+use Rattle.rules.specs.Answers.{isFamily}
+use Rattle.stream_rules.specs.Heads.{head}
 use Rattle.stream_rules.specs.Streams.{heldOf, holds}
 use Rattle.stream_rules.specs.declared.Outcome.the-variants.{Accepted}
 use Rattle.stream_laws.proofs.Facts.{top-above}
 use Rattle.seek_laws.proofs.Families.{facts}
 use Rattle.stream_laws.proofs.States.{longest-fits, shut-1, shut-6, shut-call}
+use Rattle.stream_laws.proofs.Saying.{shuts}
 use Rattle.stream.proofs.close.Statement.{statement}
 use Rattle.stream.proofs.close.Tie as tie
 
@@ -30,7 +32,7 @@ room : (c : tie.Else2) → c .before .before .before .before .before .before .ar
 room c = omega (arith, c .if2 .left, c .before .longest-frame .ensures)
 
 returns : tie.Need-returns
-returns c = sym (shut-1 (c .before .before .before .args .r) (sym (c .before .one-of .ensures) ∙ not-true _ (c .if1 .taken)))
+returns c = shuts (sym (shut-1 (c .before .before .before .args .r) (sym (c .before .one-of .ensures) ∙ not-true _ (c .if1 .taken))))
 
 cast-count : tie.Need-cast-count
 cast-count c = search needs
@@ -39,7 +41,7 @@ longest-frame-requires : tie.Need-longest-frame-requires
 longest-frame-requires c κs = search needs
 
 returns-2 : tie.Need-returns-2
-returns-2 c = sym (shut-6 (c .before .before .before .before .before .before .args .r) (a-family (c .before .before .before)) (omega (arith, c .if2 .taken, c .before .longest-frame .ensures, top-above (head (c .before .before .before .before .before .before .args .r .family)) _ (facts (c .before .before .before .before .before .before .args .r .family)))))
+returns-2 c = shuts (sym (shut-6 (c .before .before .before .before .before .before .args .r) (a-family (c .before .before .before)) (omega (arith, c .if2 .taken, c .before .longest-frame .ensures, top-above (head (c .before .before .before .before .before .before .args .r .family)) _ (facts (c .before .before .before .before .before .before .args .r .family))))))
 
 slice-aggregate-keep : tie.Need-slice-aggregate-keep
 slice-aggregate-keep c = search needs
@@ -57,7 +59,7 @@ returns-3 c =
     let r = start .args .r in
     let places : length (r .held) ≡ 133 = sym (slice-aggregate-keep (c .before)) in
     let size : length (heldOf r) ≡ r .count = length-take (r .count) (r .held) ∙ omega (arith, room (c .before .before .before), longest-fits (r .family), places) in
-    (λ i. record {
+    shuts ((λ i. record {
       reader = record {
         family = r .family;
         closed = 1;
@@ -68,7 +70,7 @@ returns-3 c =
       };
       outcome = Accepted;
     })
-    ∙ sym (shut-call r (a-family (c .before .before .before .before .before .before)) (room (c .before .before .before)))
+    ∙ sym (shut-call r (a-family (c .before .before .before .before .before .before)) (room (c .before .before .before))))
 
 pub close-spec : {M : Type 1} → statement M
 close-spec =

@@ -36,7 +36,7 @@ found c = drained _ _ _ _ _ (sym (c .before .before .first-good .ensures) ∙ c 
 few : (c : tie.After-text) → length (c .text .result .now) ≤ 133
 few c =
     let start = c .before .before .before .before in
-    let size = ap length (c .text .ensures) ∙ length-take (start .args .r .count) (start .args .r .held) in
+    let size = ap length (c .text .ensures .content) ∙ length-take (start .args .r .count) (start .args .r .held) in
     omega (arith, size, start .pre, longest-fits (start .args .r .family))
 
 add-behind : tie.Need-add-behind
@@ -68,14 +68,14 @@ returns c =
     let r = c .before .before .before .before .before .before .before .before .before .before .args .r in
     c .answered .ensures
     ∙ drained-answer r _ _ _ _ (found (c .before .before .before)) _ (c .before .keep .ensures)
-    ∙ ap (λ (l : List ℕ). closedCall r (look (atClose (head (r .family))) l)) (c .before .before .before .before .before .before .text .ensures)
+    ∙ ap (λ (l : List ℕ). closedCall r (look (atClose (head (r .family))) l)) (c .before .before .before .before .before .before .text .ensures .content)
 
 returns-2 : tie.Need-returns-2
 returns-2 c =
     let r = c .before .before .before .before .before .before .before .before .args .r in
     c .done .ensures
     ∙ ap (closedCall r) (sym (emptied (r .family) _ (sym (c .before .before .before .first-good .ensures) ∙ c .before .enum-told .given .1)))
-    ∙ ap (λ (l : List ℕ). closedCall r (look (atClose (head (r .family))) l)) (c .before .before .before .before .text .ensures)
+    ∙ ap (λ (l : List ℕ). closedCall r (look (atClose (head (r .family))) l)) (c .before .before .before .before .text .ensures .content)
 
 pub drain-spec : {M : Type 1} → statement M
 drain-spec =

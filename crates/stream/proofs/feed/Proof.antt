@@ -8,7 +8,8 @@ use native.Mathlib.Omega.{arith}
 use borrow.Author.Needs.{needs}
 use borrow.Author.Tests.{not-true, not-false}
 use lib.ListN.{length, length-take, drop-of-length-le}
-use Rattle.stream_rules.specs.Heads.{isFamily, longest, head}
+use Rattle.rules.specs.Answers.{isFamily}
+use Rattle.stream_rules.specs.Heads.{longest, head}
 use Rattle.stream_rules.specs.Rule.{call}
 use Rattle.stream_rules.specs.Streams.{holds, openCall, fed}
 use Rattle.stream_laws.proofs.Facts.{top-above}
@@ -18,6 +19,7 @@ use Rattle.stream.specs.Turns.{StepFits, fedBy}
 use Rattle.stream.specs.declared.pieces.Turn.{Turn}
 use Rattle.stream.proofs.Counts.{by-call}
 use Rattle.stream.proofs.Closing.{turn-fits}
+use Rattle.stream_laws.proofs.Saying.{feeds}
 use Rattle.stream.proofs.feed.Statement.{statement}
 use Rattle.stream.proofs.feed.Tie as tie
 
@@ -35,7 +37,7 @@ room : (c : tie.Else2) → c .before .before .before .before .before .before .be
 room c = omega (arith, c .if2 .left, c .before .longest-frame .ensures)
 
 returns : tie.Need-returns
-returns c = sym (refused-1 (c .before .before .before .before .args .r) _ (sym (c .before .one-of .ensures) ∙ not-true _ (c .if1 .taken)))
+returns c = feeds (sym (refused-1 (c .before .before .before .before .args .r) _ (sym (c .before .one-of .ensures) ∙ not-true _ (c .if1 .taken))))
 
 cast-count : tie.Need-cast-count
 cast-count c = search needs
@@ -46,7 +48,7 @@ longest-frame-requires c κs = search needs
 returns-2 : tie.Need-returns-2
 returns-2 c =
     let r = c .before .before .before .before .before .before .before .args .r in
-    sym (refused-6 r _ (a-family (c .before .before .before)) (omega (arith, c .if2 .taken, c .before .longest-frame .ensures, top-above (head (r .family)) _ (facts (r .family)))))
+    feeds (sym (refused-6 r _ (a-family (c .before .before .before)) (omega (arith, c .if2 .taken, c .before .longest-frame .ensures, top-above (head (r .family)) _ (facts (r .family))))))
 
 slice-aggregate-text : tie.Need-slice-aggregate-text
 slice-aggregate-text c = search needs
@@ -57,7 +59,7 @@ text-requires c κs = search needs
 few : (c : tie.After-text) → length (c .text .result .now) < longest (c .before .before .before .before .before .before .before .before .before .before .before .before .args .r .family)
 few c =
     let r = c .before .before .before .before .before .before .before .before .before .before .before .before .args .r in
-    let size = ap length (c .text .ensures) ∙ length-take (r .count) (r .held) in
+    let size = ap length (c .text .ensures .content) ∙ length-take (r .count) (r .held) in
     omega (arith, size, room (c .before .before .before .before .before), top-above (head (r .family)) _ (facts (r .family)))
 
 run-requires : tie.Need-run-requires
@@ -73,16 +75,16 @@ returns-3 : tie.Need-returns-3
 returns-3 c =
     let a = c .before .before .before .before .before .before .before .before .before .before .before .before .before .before .args in
     let r = a .r in
-    c .answered .ensures
+    feeds (c .answered .ensures
     ∙ ap (fedBy r) (c .before .run .ensures)
     ∙ by-call r (call (head (r .family)) (c .before .before .text .result .now) (a .offered .now))
-    ∙ ap (λ (l : List ℕ). openCall r (call (head (r .family)) l (a .offered .now))) (c .before .before .text .ensures)
-    ∙ sym (open-call r (a .offered .now) (a-family (c .before .before .before .before .before .before .before .before .before .before)) (room (c .before .before .before .before .before .before .before)) (c .before .before .before .before .before .if3 .taken))
+    ∙ ap (λ (l : List ℕ). openCall r (call (head (r .family)) l (a .offered .now))) (c .before .before .text .ensures .content)
+    ∙ sym (open-call r (a .offered .now) (a-family (c .before .before .before .before .before .before .before .before .before .before)) (room (c .before .before .before .before .before .before .before)) (c .before .before .before .before .before .if3 .taken)))
 
 returns-4 : tie.Need-returns-4
 returns-4 c =
     let a = c .before .before .before .before .before .before .before .before .before .before .args in
-    sym (refused-5 (a .r) (a .offered .now) (a-family (c .before .before .before .before .before .before)) (room (c .before .before .before)) (c .before .if3 .left) (c .if4 .taken))
+    feeds (sym (refused-5 (a .r) (a .offered .now) (a-family (c .before .before .before .before .before .before)) (room (c .before .before .before)) (c .before .if3 .left) (c .if4 .taken)))
 
 drain-requires : tie.Need-drain-requires
 drain-requires c κs = search needs
@@ -91,9 +93,9 @@ returns-5 : tie.Need-returns-5
 returns-5 c =
     let a = c .before .before .before .before .before .before .before .before .before .before .before .args in
     let none : a .offered .now ≡ [] = drop-of-length-le (a .offered .now) {i = 0} (omega (arith, c .before .if4 .left)) in
-    c .drain .ensures
+    feeds (c .drain .ensures
     ∙ sym (closed-call (a .r) (a-family (c .before .before .before .before .before .before .before)) (room (c .before .before .before .before)) (c .before .before .if3 .left))
-    ∙ ap (fed (a .r)) (sym none)
+    ∙ ap (fed (a .r)) (sym none))
 
 pub feed-spec : {M : Type 1} → statement M
 feed-spec =

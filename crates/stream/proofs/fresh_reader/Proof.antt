@@ -4,6 +4,7 @@ use mathlib.Core.Path.{sym, _∙_}
 use borrow.Author.Needs.{needs}
 use borrow.Author.Tests.{not-true, not-false}
 use Rattle.stream_laws.proofs.States.{fresh-1, fresh-call}
+use Rattle.stream_laws.proofs.Saying.{makes}
 use Rattle.stream.proofs.fresh_reader.Statement.{statement}
 use Rattle.stream.proofs.fresh_reader.Tie as tie
 
@@ -14,10 +15,10 @@ one-of-requires : tie.Need-one-of-requires
 one-of-requires c κs = search needs
 
 returns : tie.Need-returns
-returns c = sym (fresh-1 _ (sym (c .before .one-of .ensures) ∙ not-true _ (c .if1 .taken)))
+returns c = makes (sym (fresh-1 _ (sym (c .before .one-of .ensures) ∙ not-true _ (c .if1 .taken))))
 
 returns-2 : tie.Need-returns-2
-returns-2 c = sym (fresh-call _ (sym (c .before .one-of .ensures) ∙ not-false _ (c .if1 .left)))
+returns-2 c = makes (sym (fresh-call _ (sym (c .before .one-of .ensures) ∙ not-false _ (c .if1 .left))))
 
 pub fresh-reader-spec : {M : Type 1} → statement M
 fresh-reader-spec = tie.close (tie.spec slice-aggregate-one-of one-of-requires returns returns-2)

@@ -26,7 +26,7 @@ returns c =
     let a = c .before .before .before .before .before .args in
     let bytes = part (a .a) (a .n) (a .s .now) in
     c .before .put-bytes .ensures
-    ∙ ap (λ (l : List ℕ). laid 0 l (zeros 133)) (c .before .before .text .ensures)
+    ∙ ap (λ (l : List ℕ). laid 0 l (zeros 133)) (c .before .before .text .ensures .content)
     ∙ fills bytes (omega (arith, length-take (a .n) (drop (a .a) (a .s .now)), c .before .before .before .before .before .pre .1))
 
 pub keep-spec : {M : Type 1} → statement M

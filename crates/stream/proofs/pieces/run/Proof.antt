@@ -37,13 +37,13 @@ text-requires c κs = search needs
 take-piece-requires : tie.Need-take-piece-requires Inv-loop μ-loop
 take-piece-requires c κs =
     let start = c .before .before .before in
-    let size = ap length (c .text .ensures) ∙ length-take 133 (start .args .offered .now) in
+    let size = ap length (c .text .ensures .content) ∙ length-take 133 (start .args .offered .now) in
     ((start .pre .0, start .pre .1, omega (arith, size)), (omega arith, omega arith))
 
 loop-holds : tie.Need-loop-holds Inv-loop μ-loop
 loop-holds c =
     let a = c .before .before .before .before .args in
-    (omega arith, c .take-piece .ensures ∙ ap (λ (l : List ℕ). turned (call (head (a .family)) (a .held .now) l)) (c .before .text .ensures))
+    (omega arith, c .take-piece .ensures ∙ ap (λ (l : List ℕ). turned (call (head (a .family)) (a .held .now) l)) (c .before .text .ensures .content))
 
 enum-known-step : tie.Need-enum-known-step Inv-loop μ-loop
 enum-known-step c = search needs
@@ -73,8 +73,8 @@ take-piece-requires-2 c κs =
     let a = start .args in
     let loop = c .before .before .before .before .before .before .before .before .loop in
     let goes = next (c .before .before .before .before .before) in
-    let held-size : length (c .before .text2 .result .now) ≡ length (take (loop .turn .count) (loop .turn .held)) = ap length (c .before .text2 .ensures) in
-    let piece-size = ap length (c .text3 .ensures) ∙ length-take 133 (drop (loop .done) (a .offered .now)) in
+    let held-size : length (c .before .text2 .result .now) ≡ length (take (loop .turn .count) (loop .turn .held)) = ap length (c .before .text2 .ensures .content) in
+    let piece-size = ap length (c .text3 .ensures .content) ∙ length-take 133 (drop (loop .done) (a .offered .now)) in
     let cs-size = length-take (loop .done) (a .offered .now) in (
       (omega (arith, held-size, goes .kept-short), omega (arith, held-size, goes .kept-short, longest-fits (a .family)), omega (arith, piece-size)),
       (omega (arith, goes .all-taken, cs-size, start .good), omega (arith, goes .few-skipped, cs-size, start .good, start .pre)),
@@ -94,7 +94,7 @@ loop-again c =
     let whole : take (loop .done) (a .offered .now) ++ part (loop .done) 133 (a .offered .now) ≡ take (loop .done + 133) (a .offered .now) = sym (take-add (loop .done) 133 (a .offered .now)) in (
       omega (arith, c .before .before .before .before .before .before .before .before .loop-test .taken),
       c .take-piece2 .ensures
-          ∙ (λ i. turnedFrom (step .0) (step .1 .0) (call (head (a .family)) (c .before .before .text2 .ensures i) (c .before .text3 .ensures i)))
+          ∙ (λ i. turnedFrom (step .0) (step .1 .0) (call (head (a .family)) (c .before .before .text2 .ensures .content i) (c .before .text3 .ensures .content i)))
           ∙ next (c .before .before .before .before .before .before) .goes-on
           ∙ ap (λ (l : List ℕ). turned (call (head (a .family)) (a .held .now) l)) whole,
     )

@@ -20,7 +20,7 @@ use Rattle.stream.proofs.pieces.take_piece.Tie as tie
 -- the bytes of the buffer
 module _ (c : tie.After-text) where
   bytes-are : c .text .result .now ≡ c .before .before .before .before .before .args .held .now ++ c .before .before .before .before .before .args .piece .now
-  bytes-are = c .text .ensures ∙ c .before .before .join .ensures .front
+  bytes-are = c .text .ensures .content ∙ c .before .before .join .ensures .front
 
   bytes-length : length (c .text .result .now) ≡ length (c .before .before .before .before .before .args .held .now) + length (c .before .before .before .before .before .args .piece .now)
   bytes-length = ap length bytes-are ∙ length-append (c .before .before .before .before .before .args .held .now) (c .before .before .before .before .before .args .piece .now)
