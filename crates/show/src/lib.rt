@@ -1,6 +1,6 @@
 // A frame as text, for the programs: its kind, its values, and what the writer makes of it. Each
-// function but the last lays text into a lent line at a place and gives the place behind it; what
-// has no room is left out.
+// function but the last three lays text into a lent line at a place and gives the place behind it;
+// what has no room is left out. The last three print.
 //
 // The contracts say nothing: each function is proved safe and ending, and what is printed is tested
 // by the programs that print it.
@@ -119,6 +119,20 @@ pub fn frame(line: &mut [u8], at: usize, frame: Frame) -> usize {
 pub fn refused(line: &mut [u8], at: usize, n: u8) -> usize {
     let place = text(line, at, b"refused");
     spaced(line, place, n as u64)
+}
+
+// Prints a text as a line.
+pub fn print_text(what: &[u8]) {
+    let mut line = [0u8; 512];
+    let end = text(&mut line, 0, what);
+    print(&mut line, end);
+}
+
+// Prints a refusal as a line.
+pub fn print_refused(n: u8) {
+    let mut line = [0u8; 32];
+    let end = refused(&mut line, 0, n);
+    print(&mut line, end);
 }
 
 // Prints the line up to the place, and a line end, in one write.

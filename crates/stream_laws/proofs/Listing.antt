@@ -9,7 +9,7 @@ use native.Mathlib.Nat.{zero-add, mod-eq-of-lt}
 use native.Mathlib.Omega.{arith}
 use borrow.Author.Tests.{leb-true}
 use lib.Dec.{leb}
-use lib.ListN.{length, take, drop, length-drop, length-map}
+use lib.ListN.{length, take, drop, length-append, length-drop, length-map}
 use lib.Seq.{take-at}
 use Rattle.rules.specs.Bytes.{part}
 use Rattle.rules.specs.Answers.{readOne, noFamily, noRoom, isFamily}
@@ -19,6 +19,7 @@ use Rattle.stream_rules.specs.Rule.{Found, Look, ready, waiting, byHead, byLook
 use Rattle.stream_rules.specs.Streams.{wrap, fresh}
 use Rattle.stream_rules.specs.Lister.{frames, startsOf, tooLong, fits, Lists, firstFrame, firstPlace}
 use Rattle.stream_rules.specs.declared.Answer.{Answer}
+use Rattle.stream_rules.specs.declared.Listed.{Listed}
 use Rattle.stream_rules.specs.declared.Listed.the-variants.{Count, Refused}
 use Rattle.stream_rules.specs.declared.Turned.{Turned}
 use Rattle.stream_laws.specs.Sessions.{Session, handed, wrapped}
@@ -176,6 +177,15 @@ counted false a b m n e = let z : _≡_ {A = ℕ} 0 1 = cc in absurd (omega arit
 counted true false b m n e = let z : _≡_ {A = ℕ} 0 1 = cc in absurd (omega arith)
 counted true true false m n e = let z : _≡_ {A = ℕ} 0 1 = cc in absurd (omega arith)
 counted true true true m n e = (refl, refl, refl, cc)
+
+-- So there are no more starts than places in the list.
+pub lists-fit : (family : ℕ) (capture out : List ℕ) (answer : Listed) (n : ℕ) (after : List ℕ) → Lists family capture out answer after → answer ≡ Count n → n ≤ length after
+lists-fit family capture out answer n after lists counts =
+    let fs = frames family capture in
+    let says = counted (isFamily family) (fits capture) (leb (length fs) (length out)) (length fs) n (sym counts ∙ lists .answers) in
+    let left : after ≡ startsOf fs ++ drop (length fs) out = lists .content ∙ rw (says .0, says .1, says .2) in
+    let size : length after ≡ length (startsOf fs) + length (drop (length fs) out) = ap length left ∙ length-append (startsOf fs) (drop (length fs) out) in
+    omega (arith, size, length-map fs (λ (f : Found). f .start), says .3)
 
 -- The reader's starts are the lister's, modulo 2^32; and on a capture its frames are the rule's, with nothing wrapped.
 module _ (family : ℕ) (known : isFamily family ≡ true) (facts : Facts (head family) (longest family)) (t : Turned) (begins : t ≡ fresh family)

@@ -15,13 +15,14 @@ use Rattle.stream_rules.specs.Heads.{longest, head, atClose}
 use Rattle.stream_rules.specs.Rule.{Look, ready, waiting, look, Call, gives, wants, call}
 use Rattle.stream_rules.specs.Streams.{wrap, holds, heldOf, holding, isClosed, holdsTooMuch, refuse, goOn, openCall, closedCall, fed, shut, fresh}
 use Rattle.stream_rules.specs.declared.Reader.{Reader}
-use Rattle.stream_rules.specs.declared.Answer.the-variants.{Done}
+use Rattle.stream_rules.specs.declared.Ready as ReadyType
+use Rattle.stream_rules.specs.declared.Answer.the-variants.{Ready, Done}
 use Rattle.stream_rules.specs.declared.Fed.{Fed}
 use Rattle.stream_rules.specs.declared.Outcome.the-variants.{Accepted, Refused as NotAccepted}
 use Rattle.stream_rules.specs.declared.Turned.{Turned}
-use Rattle.stream_laws.specs.Sessions.{isNoRefusal}
+use Rattle.stream_laws.specs.Sessions.{takenOf, isNoRefusal}
 use Rattle.stream_laws.proofs.Facts.{Facts, top-above}
-use Rattle.stream_laws.proofs.Calls.{gives-short, wants-short, drain-adds-up}
+use Rattle.stream_laws.proofs.Calls.{call-gives, gives-adds-up, gives-above, gives-short, wants-short, drain-adds-up, drain-above}
 
 -- A count that has wrapped is counted on as if it had not.
 pub wrap-on : (a b : ℕ) → wrap (wrap a + b) ≡ wrap (a + b)
@@ -213,6 +214,43 @@ module _ (r : Reader) (offered : List ℕ) (facts : Facts (head (r .family)) (lo
       (λ n e. absurd (false≢true e))
       (λ p q e. open-fits (held-short r facts q) (call (head (r .family)) (heldOf r) offered) refl)
       (λ p q s e. closed-fits (held-short r facts q) (look (atClose (head (r .family))) (heldOf r)) refl)
+
+-- A frame that is handed out leaves fewer bytes, held and still to be offered, than there were: so whoever offers the
+-- untaken rest again comes to an end.
+pub record Onward (r : Reader) (offered : List ℕ) (taken : ℕ) (after : Reader) : Type 0 where
+  pub within : taken ≤ length offered
+  pub fewer : after .count < r .count + taken
+
+module _ (r : Reader) (offered : List ℕ) (facts : Facts (head (r .family)) (longest (r .family))) where
+  open-onward : (c : Call) → call (head (r .family)) (heldOf r) offered ≡ c → (x : ReadyType.Ready) → (openCall r c) .answer ≡ Ready x
+      → Onward r offered (x .taken) ((openCall r c) .reader)
+  open-onward (gives taken k n f kept) e x is =
+      let same : taken ≡ x .taken = ap takenOf is in
+      let adds-up = gives-adds-up (head (r .family)) (longest (r .family)) facts (heldOf r) offered taken k n f kept e in
+      let above = gives-above (head (r .family)) (longest (r .family)) facts (heldOf r) offered taken k n f kept e in
+      let held = length-take (r .count) (r .held) in
+      let within : taken ≤ length offered = call-gives (head (r .family)) (longest (r .family)) facts (heldOf r) offered taken k n f kept e .within in
+      record { within = omega (arith, same, within); fewer = omega (arith, same, adds-up, above, held) }
+  open-onward (wants taken k kept) e x is = let z : _≡_ {A = ℕ} 0 1 = cc in absurd (omega arith)
+
+  closed-onward : (l : Look) → look (atClose (head (r .family))) (heldOf r) ≡ l → (x : ReadyType.Ready) → (closedCall r l) .answer ≡ Ready x
+      → Onward r offered (x .taken) ((closedCall r l) .reader)
+  closed-onward (ready k n f behind) e x is =
+      let same : 0 ≡ x .taken = ap takenOf is in
+      let adds-up = drain-adds-up (head (r .family)) (longest (r .family)) facts (heldOf r) k n f behind e in
+      let above = drain-above (head (r .family)) (longest (r .family)) facts (heldOf r) k n f behind e in
+      let held = length-take (r .count) (r .held) in
+      record { within = omega (arith, same); fewer = omega (arith, same, adds-up, above, held) }
+  closed-onward (waiting k rest) e x is = let z : _≡_ {A = ℕ} 0 1 = cc in absurd (omega arith)
+
+  pub onward : (x : ReadyType.Ready) → (fed r offered) .answer ≡ Ready x → Onward r offered (x .taken) ((fed r offered) .reader)
+  onward x =
+      by-kind r
+      offered
+      (λ a. a .answer ≡ Ready x → Onward r offered (x .taken) (a .reader))
+      (λ n e. let z : _≡_ {A = ℕ} 0 1 = cc in absurd (omega arith))
+      (λ p q e. open-onward (call (head (r .family)) (heldOf r) offered) refl x e)
+      (λ p q s e. closed-onward (look (atClose (head (r .family))) (heldOf r)) refl x e)
 
 -- What they were before has no effect: a reader whose held places are others, but the same as far as they are used,
 -- gives the same answer, and the same state where that is no refusal.

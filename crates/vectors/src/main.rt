@@ -1,9 +1,14 @@
-// Prints what the reader of one frame makes of each line of standard input, for comparison with a
-// stored output: a family digit, a space, and the frame, either as it stands, from `$` on, or in
-// hexadecimal digits. A line that begins with `#` is a heading and is printed as it is.
+// Prints what the library makes of each line of standard input, for comparison with a stored output.
+// A family digit, a space and a frame, either as it stands, from `$` on, or in hexadecimal digits:
+// what the reader of one frame makes of it. An `l` or an `r`, the family digit, a space and
+// hexadecimal digits: the listing of a capture, or the replay of a script. A line that begins with
+// `#` is a heading and is printed as it is.
 //
 // What is printed is tested, not proved: the contracts only keep indices in range.
+use printing::print_listing;
+use printing::print_replay;
 use rules::Reading;
+use std::num::wrapping_sub_u8;
 ghost use Prim.Native.Nat.{_≤_};
 ghost use lib.ListN.{length};
 
@@ -39,14 +44,18 @@ fn line_end(text: &[u8], a: usize) -> usize
 
 fn print_answer(line: &[u8]) {
     if line.len() < 2 {
-        print_text(b"bad line");
+        show::print_text(b"bad line");
         return;
     }
     if line[0] == b'#' {
-        print_text(line);
+        show::print_text(line);
         return;
     }
-    let family = std::num::wrapping_sub_u8(line[0], b'0');
+    if leaves::one_of(b"lr", line[0]) {
+        print_run(line);
+        return;
+    }
+    let family = wrapping_sub_u8(line[0], b'0');
     let frame = &line[2..];
     if 0 < frame.len() {
         if frame[0] == b'$' {
@@ -57,13 +66,34 @@ fn print_answer(line: &[u8]) {
     print_hex(family, frame);
 }
 
+// The listing of a capture, or the replay of a script.
+fn print_run(line: &[u8]) {
+    if line.len() < 3 {
+        show::print_text(b"bad line");
+        return;
+    }
+    let family = wrapping_sub_u8(line[1], b'0');
+    let digits = &line[3..];
+    let mut bytes = [0u8; 256];
+    let n = from_hex(digits, &mut bytes);
+    if n + n != digits.len() {
+        show::print_text(b"bad line");
+        return;
+    }
+    if line[0] == b'l' {
+        print_listing(family, &bytes[0..n]);
+    } else {
+        print_replay(family, &bytes[0..n]);
+    }
+}
+
 fn print_hex(family: u8, digits: &[u8]) {
     let mut bytes = [0u8; 256];
     let n = from_hex(digits, &mut bytes);
     if n + n == digits.len() {
         print_frame(family, &bytes[0..n]);
     } else {
-        print_text(b"bad line");
+        show::print_text(b"bad line");
     }
 }
 
@@ -93,15 +123,6 @@ fn print_frame(family: u8, bytes: &[u8]) {
             let end = show::frame(&mut line, 0, frame);
             show::print(&mut line, end);
         }
-        Reading::Refused(n) => {
-            let end = show::refused(&mut line, 0, n);
-            show::print(&mut line, end);
-        }
+        Reading::Refused(n) => show::print_refused(n),
     }
-}
-
-fn print_text(text: &[u8]) {
-    let mut line = [0u8; 512];
-    let end = show::text(&mut line, 0, text);
-    show::print(&mut line, end);
 }

@@ -1,0 +1,14 @@
+// Replays the calls of a script on a stream reader: standard input is the family's digit, 1, 2 or 3,
+// and the script. Prints a line for each call, or the refusal alone.
+use printing::print_replay;
+use std::num::wrapping_sub_u8;
+
+fn main() {
+    let mut input = printing::input_buffer();
+    let n = io::read_full(libc::STDIN_FILENO, &mut input);
+    if n == 0 {
+        show::print_refused(1);
+        return;
+    }
+    print_replay(wrapping_sub_u8(input[0], b'0'), &input[1..n]);
+}
