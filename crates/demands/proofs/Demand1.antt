@@ -1,13 +1,18 @@
 -- Demand 1's numbers. Every promise with refusals states their numbers and their order itself, in a clause `says`. Here is
--- the reader of one frame, whose number 8 speaks of the good frames of demand 2; and which number each writer has. Each is
+-- the reader of one frame, whose number 8 speaks of the good frames of demand 2; and the numbers of the writers. Each is
 -- about whatever meets a promise. Assumes nothing.
 use Prim.Native.Nat.{ℕ}
-use mathlib.Core.Path.{_≡_, refl, ap, _∙_}
-use mathlib.Core.Bool.{true, false, cond, not}
-use mathlib.Core.List.{List}
-use Rattle.rules.specs.Answers.{no, yes, noFamily, noCode, noRecord, notGood, values, said, saidToWrite, valuesOr8, readOne, isFamily, allowed, bytesOf, notAllowed, Reads, Writes}
+use mathlib.Core.Path.{_≡_, refl, sym, ap, _∙_}
+use mathlib.Core.Bool.{Bool, true, false, cond, not}
+use mathlib.Core.List.{List, [], _∷_}
+use mathlib.Core.Logic.{_↔_}
+use native.Mathlib.Omega.{arith}
+use lib.Dec.{leb}
+use lib.IntN.{pos}
+use lib.ListN.{length}
+use Rattle.rules.specs.Answers.{lengthWritten, Says, no, yes, noFamily, noCode, noRecord, noRoom, notGood, kindOf, values, said, saidToWrite, valuesOr8, readOne, isFamily, allowed, bytesOf, notAllowed, Reads, Writes}
 use Rattle.rules.specs.declared.Frame.{Frame}
-use Rattle.rules.specs.declared.Frame.the-variants.{Ack, Status, Command, Apa02, Apa03, Apa05}
+use Rattle.rules.specs.declared.Frame.the-variants.{Ack, Status, Command, Apa02, Apa03, Apa05, Other}
 use Rattle.rules.specs.declared.Status as StatusType
 use Rattle.rules.specs.declared.Sentence02.{Sentence02}
 use Rattle.rules.specs.declared.Sentence03.{Sentence03}
@@ -21,8 +26,8 @@ module _ (family : ℕ) (bs : List ℕ) (answer : Reading) (reads : Reads family
   pub read-1 : isFamily family ≡ false → said answer ≡ no noFamily
   read-1 e = reads .says ∙ (λ i. cond (not (e i)) (no noFamily) (valuesOr8 (readOne family bs)))
 
-  -- its values where the bytes are one good frame of the family,
-  pub read-values : (f : Frame) → IsOne family bs f → said answer ≡ yes (values f)
+  -- its kind and values where the bytes are one good frame of the family,
+  pub read-values : (f : Frame) → IsOne family bs f → said answer ≡ yes (kindOf f) (values f)
   read-values f one = ap said (reads .answers ∙ exact family bs f .1 one)
 
   -- and else 8.
@@ -40,7 +45,36 @@ pub record-3 : (s : StatusType.Status) (x : Sentence02) (y : Sentence03) (z : Se
     → (notAllowed (Status s) ≡ noRecord) × (notAllowed (Apa02 x) ≡ noRecord) × (notAllowed (Apa03 y) ≡ noRecord) × (notAllowed (Apa05 z) ≡ noRecord)
 record-3 s x y z = (refl, refl, refl, refl)
 
--- It is given, and nothing else, exactly where the code or record is not allowed.
+-- what tells a refusal and its number apart: 0 for none
+abbrev number : Says → ℕ
+number (no n) = n
+number (yes k vs) = 0
+
+not-4 : (f : Frame) → notAllowed f ≡ noRoom → ⊥
+not-4 (Ack c) e = omega (arith, e)
+not-4 (Status s) e = omega (arith, e)
+not-4 (Command c) e = omega (arith, e)
+not-4 (Apa02 r) e = omega (arith, e)
+not-4 (Apa03 r) e = omega (arith, e)
+not-4 (Apa05 r) e = omega (arith, e)
+not-4 (Other n) e = omega (arith, e)
+
+not-0 : (f : Frame) → notAllowed f ≡ 0 → ⊥
+not-0 (Ack c) e = omega (arith, e)
+not-0 (Status s) e = omega (arith, e)
+not-0 (Command c) e = omega (arith, e)
+not-0 (Apa02 r) e = omega (arith, e)
+not-0 (Apa03 r) e = omega (arith, e)
+not-0 (Apa05 r) e = omega (arith, e)
+not-0 (Other n) e = omega (arith, e)
+
+-- It is given exactly where the code or record is not allowed.
 pub write-no : (f : Frame) (out : List ℕ) (answer : Written) (after : List ℕ) → Writes (allowed f) (notAllowed f) (bytesOf f) out answer after
-    → allowed f ≡ false → saidToWrite answer ≡ no (notAllowed f)
-write-no f out answer after w e = w .says ∙ rw e
+    → (saidToWrite answer ≡ no (notAllowed f)) ↔ (allowed f ≡ false)
+write-no f out answer after w = (λ e. back (allowed f) (leb (length (bytesOf f)) (length out)) (sym (w .says) ∙ e), λ e. w .says ∙ rw e)
+  where
+    back : (a room : Bool) → cond (not a) (no (notAllowed f)) (cond (not room) (no noRoom) (yes lengthWritten (pos (length (bytesOf f)) ∷ []))) ≡ no (notAllowed f)
+        → a ≡ false
+    back false room e = refl
+    back true false e = absurd (not-4 f (sym (ap number e)))
+    back true true e = absurd (not-0 f (sym (ap number e)))

@@ -35,13 +35,35 @@ noRoom = 4
 abbrev pub notGood : ℕ
 notGood = 8
 
--- What an answer says in the terms of document 01: no, with its number only; or yes, with its values in their order.
+-- The kinds of answers that are no refusals. A frame is an acknowledgement or a command with its code, a status report, or
+-- a sentence with its number, as a listing tells them apart.
+pub data Kind : Type 0 where
+  ofAck : ℕ → Kind
+  ofStatus : Kind
+  ofCommand : ℕ → Kind
+  ofSentence : ℕ → Kind
+  moreWanted : Kind
+  nowDone : Kind
+  lengthWritten : Kind
+  startsListed : Kind
+  accepted : Kind
+
+-- What an answer says in the terms of document 01: no, with its number only; or yes, with its kind and its values in their
+-- order.
 pub data Says : Type 0 where
   no : ℕ → Says
-  yes : List ℤ → Says
+  yes : Kind → List ℤ → Says
 
--- The values of a frame: of a status report its fields, of a sentence with a record its numbers. An acknowledgement, a
--- command and an "other" have none besides their code or number, which stands here.
+abbrev pub kindOf : Frame → Kind
+kindOf (Ack c) = ofAck c
+kindOf (Status s) = ofStatus
+kindOf (Command c) = ofCommand c
+kindOf (Apa02 r) = ofSentence 2
+kindOf (Apa03 r) = ofSentence 3
+kindOf (Apa05 r) = ofSentence 5
+kindOf (Other n) = ofSentence n
+
+-- The values of a frame: of a status report its fields, of a sentence with a record its numbers; the others have none.
 abbrev pub statusNumbers : StatusType.Status → List ℕ
 statusNumbers s =
     s .id ∷ s .state ∷ s .direction ∷ s .bank ∷ s .input ∷ s .band ∷ s .transmit ∷ s .tuner ∷ s .receive ∷ s .level
@@ -52,21 +74,21 @@ numbers05 r =
     r .band ∷ r .segment ∷ r .memory ∷ r .antenna ∷ r .meter ∷ r .control ∷ r .options ∷ r .state ∷ r .wtime ∷ r .tcmd ∷ r .lcmd ∷ []
 
 abbrev pub values : Frame → List ℤ
-values (Ack c) = pos c ∷ []
+values (Ack c) = []
 values (Status s) = map pos (statusNumbers s)
-values (Command c) = pos c ∷ []
+values (Command c) = []
 values (Apa02 r) = map pos (numbers02 r)
 values (Apa03 r) = map pos (numbers03 r) ++ r .temp ∷ []
 values (Apa05 r) = map pos (numbers05 r)
-values (Other n) = pos n ∷ []
+values (Other n) = []
 
 -- each case of the answer of a reader of one frame, and of a writer
 abbrev pub said : Reading → Says
-said (Good f) = yes (values f)
+said (Good f) = yes (kindOf f) (values f)
 said (Refused n) = no n
 
 abbrev pub saidToWrite : Written → Says
-saidToWrite (Length n) = yes (pos n ∷ [])
+saidToWrite (Length n) = yes lengthWritten (pos n ∷ [])
 saidToWrite (NotWritten n) = no n
 
 -- One good frame, as a whole, or refusal 8. Family 1 is an acknowledgement or a status report:
@@ -104,7 +126,7 @@ abbrev pub isFamily : ℕ → Bool
 isFamily family = oneOf (1 ∷ 2 ∷ 3 ∷ []) family
 
 abbrev pub valuesOr8 : Reading → Says
-valuesOr8 (Good f) = yes (values f)
+valuesOr8 (Good f) = yes (kindOf f) (values f)
 valuesOr8 (Refused n) = no notGood
 
 pub record Reads (family : ℕ) (bytes : List ℕ) (answer : Reading) : Type 0 where
@@ -122,7 +144,7 @@ leaves allowed frame out = cond (allowed && leb (length frame) (length out)) (fr
 
 pub record Writes (allowed : Bool) (n : ℕ) (frame out : List ℕ) (answer : Written) (after : List ℕ) : Type 0 where
   pub answers : answer ≡ written allowed n frame out
-  pub says : saidToWrite answer ≡ cond (not allowed) (no n) (cond (not (leb (length frame) (length out))) (no noRoom) (yes (pos (length frame) ∷ [])))
+  pub says : saidToWrite answer ≡ cond (not allowed) (no n) (cond (not (leb (length frame) (length out))) (no noRoom) (yes lengthWritten (pos (length frame) ∷ [])))
   pub content : after ≡ leaves allowed frame out
 
 -- What the writers know of a frame: the family that reads it, whether its code or record is allowed, and its bytes. An

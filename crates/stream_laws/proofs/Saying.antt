@@ -6,10 +6,10 @@ use mathlib.Core.List.{List, [], _∷_}
 use lib.Dec.{eqb, leb}
 use lib.IntN.{pos}
 use lib.ListN.{length}
-use Rattle.rules.specs.Answers.{no, yes, noFamily, noRoom, isFamily}
+use Rattle.rules.specs.Answers.{startsListed, accepted, no, yes, noFamily, noRoom, isFamily}
 use Rattle.stream_rules.specs.Heads.{head, atClose}
 use Rattle.stream_rules.specs.Rule.{Look, ready, waiting, look, Call, gives, wants, call}
-use Rattle.stream_rules.specs.Streams.{holds, heldOf, holding, isClosed, holdsTooMuch, valuesFed, saidToFeed, saidToTurn, refuse, openCall, closedCall, fed, shut, fresh, Feeds, Shuts, Makes}
+use Rattle.stream_rules.specs.Streams.{holds, heldOf, holding, isClosed, holdsTooMuch, kindFed, valuesFed, saidToFeed, saidToTurn, refuse, openCall, closedCall, fed, shut, fresh, Feeds, Shuts, Makes}
 use Rattle.stream_rules.specs.Lister.{frames, fits, tooLong, listed, saidToList, listLeft, Lists}
 use Rattle.stream_rules.specs.declared.Reader.{Reader}
 use Rattle.stream_rules.specs.declared.Fed.{Fed}
@@ -32,7 +32,7 @@ call-says : (r : Reader) (on : Call) (left : Look) (a b c d : Bool)
     → saidToFeed (by-tests r on left a b c d .answer)
     ≡ cond (not a) (no noFamily)
     (cond (not b) (no holdsTooMuch)
-    (cond (not c && not d) (no isClosed) (yes (valuesFed (by-tests r on left a b c d .answer)))))
+    (cond (not c && not d) (no isClosed) (yes (kindFed (by-tests r on left a b c d .answer)) (valuesFed (by-tests r on left a b c d .answer)))))
 call-says r on left false b c d = refl
 call-says r on left true false c d = refl
 call-says r (gives taken k n f kept) left true true true d = refl
@@ -59,7 +59,7 @@ shuts {r} e = record { answers = e; says = ap (λ (x : Turned). saidToTurn (x .o
   where
     case : (a b : Bool)
         → saidToTurn (cond (not a) (turned r (NotAccepted noFamily)) (cond (not b) (turned r (NotAccepted holdsTooMuch)) (turned (holding (r .family) 1 (heldOf r) (r .at) (r .skipped)) Accepted)) .outcome)
-        ≡ cond (not a) (no noFamily) (cond (not b) (no holdsTooMuch) (yes []))
+        ≡ cond (not a) (no noFamily) (cond (not b) (no holdsTooMuch) (yes accepted []))
     case false b = refl
     case true false = refl
     case true true = refl
@@ -70,7 +70,7 @@ makes {family} e = record { answers = e; says = ap (λ (x : Turned). saidToTurn 
   where
     case : (a : Bool)
         → saidToTurn (cond a (turned (holding family 0 [] 0 0) Accepted) (turned (holding 0 0 [] 0 0) (NotAccepted noFamily)) .outcome)
-        ≡ cond (not a) (no noFamily) (yes [])
+        ≡ cond (not a) (no noFamily) (yes accepted [])
     case true = refl
     case false = refl
 
@@ -84,7 +84,7 @@ lists {family} {capture} {out} e left = record {
   where
     case : (a b c : Bool)
         → saidToList (cond (not a) (NotListed noFamily) (cond (not b) (NotListed tooLong) (cond (not c) (NotListed noRoom) (Count (length (frames family capture))))))
-        ≡ cond (not a) (no noFamily) (cond (not b) (no tooLong) (cond (not c) (no noRoom) (yes (pos (length (frames family capture)) ∷ []))))
+        ≡ cond (not a) (no noFamily) (cond (not b) (no tooLong) (cond (not c) (no noRoom) (yes startsListed (pos (length (frames family capture)) ∷ []))))
     case false b c = refl
     case true false c = refl
     case true true false = refl

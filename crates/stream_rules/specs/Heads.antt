@@ -46,8 +46,8 @@ sentence-undecided (b ∷ bs) = eqb b (code "$") && leb (length (payloadRun bs))
 unfoldable pub undecided : ℕ → List ℕ → Bool
 undecided family bs = cond (eqb family 2) (sentence-undecided bs) (spe-undecided family bs)
 
--- How long a frame at the head would be: as long as its count needs, or its payload with `$`, `*` and four digits. It is
--- 0 where no frame can stand there, and no bytes are no frame.
+-- How long a frame at the head would be: as long as its count needs, or its payload with `$`, `*` and four digits. A
+-- count that is not allowed makes it 0, and no bytes are no frame.
 abbrev pub lengthAt : ℕ → List ℕ → ℕ
 lengthAt family bs = cond (eqb family 2) (length (payloadRun (drop 1 bs)) + 6) (needs family (getD bs 3 0))
 

@@ -6,7 +6,7 @@ use mathlib.Core.List.{List, [], _∷_, _++_, map}
 use lib.Dec.{eqb, leb, ltb}
 use lib.ListN.{length, drop}
 use lib.IntN.{pos}
-use Rattle.rules.specs.Answers.{Says, no, yes, noFamily, noRoom, isFamily}
+use Rattle.rules.specs.Answers.{startsListed, Says, no, yes, noFamily, noRoom, isFamily}
 use denote.Ref.{RefT, now}
 use Rattle.rules.specs.Bytes.{part, PartOf}
 use Rattle.stream_rules.specs.Heads.{head, atClose}
@@ -40,7 +40,7 @@ listed family capture out =
     (Count (length (frames family capture)))))
 
 abbrev pub saidToList : Listed → Says
-saidToList (Count n) = yes (pos n ∷ [])
+saidToList (Count n) = yes startsListed (pos n ∷ [])
 saidToList (Refused n) = no n
 
 abbrev pub listLeft : ℕ → List ℕ → List ℕ → List ℕ
@@ -55,7 +55,7 @@ pub record Lists (family : ℕ) (capture out : List ℕ) (answer : Listed) (afte
       ≡ cond (not (isFamily family)) (no noFamily)
       (cond (not (fits capture)) (no tooLong)
       (cond (not (leb (length (frames family capture)) (length out))) (no noRoom)
-      (yes (pos (length (frames family capture)) ∷ []))))
+      (yes startsListed (pos (length (frames family capture)) ∷ []))))
   pub content : after ≡ listLeft family capture out
 
 -- The bytes of the earliest good frame of a list of bytes, none where there is none; and its place.

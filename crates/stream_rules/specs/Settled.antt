@@ -1,8 +1,8 @@
--- How many bytes settle a start that is not undecided: with one byte less it was. The readers count by it which byte made
--- a frame ready.
+-- How many bytes settle a start that is not undecided: with one byte less it was. This is no rule of document 01 but what
+-- follows from `undecided`, as head_laws proves (`settling`); the readers count by it which byte made a frame ready.
 use Prim.Native.Nat.{ℕ, zero, suc, max, _+_}
 use Prim.Native.Char.{code}
-use mathlib.Core.Bool.{Bool, cond, not}
+use mathlib.Core.Bool.{cond, not}
 use mathlib.Core.List.{List}
 use lib.Dec.{eqb, leb}
 use lib.ListN.{length, drop, getD}

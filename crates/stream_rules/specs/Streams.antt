@@ -6,7 +6,7 @@ use mathlib.Core.List.{List, [], _∷_, _++_}
 use lib.Dec.{eqb, leb}
 use lib.ListN.{length, take, replicate}
 use lib.IntN.{ℤ, pos}
-use Rattle.rules.specs.Answers.{Says, no, yes, noFamily, isFamily, values}
+use Rattle.rules.specs.Answers.{Kind, moreWanted, nowDone, accepted, Says, no, yes, noFamily, isFamily, kindOf, values}
 use Rattle.rules.specs.declared.Frame.{Frame}
 use Rattle.stream_rules.specs.Heads.{longest, head, atClose}
 use Rattle.stream_rules.specs.Rule.{Look, ready, waiting, look, Call, gives, wants, call}
@@ -48,8 +48,14 @@ isClosed = 5
 abbrev pub holdsTooMuch : ℕ
 holdsTooMuch = 6
 
--- What the answers say in the terms of document 01. The values of a call: the bytes taken; with a frame also its start, the
--- bytes skipped, its length, and the frame's own values.
+-- What the answers say in the terms of document 01. A call gives a frame, wants more or is done. Its values: the bytes
+-- taken; with a frame also its start, the bytes skipped, its length, and the frame's own values.
+abbrev pub kindFed : Answer → Kind
+kindFed (Ready r) = kindOf (r .frame)
+kindFed (More n) = moreWanted
+kindFed (Done n) = nowDone
+kindFed (Refused n) = nowDone
+
 abbrev pub valuesFed : Answer → List ℤ
 valuesFed (Ready r) = pos (r .taken) ∷ pos (r .start) ∷ pos (r .skipped) ∷ pos (r .length) ∷ values (r .frame)
 valuesFed (More n) = pos n ∷ []
@@ -57,13 +63,13 @@ valuesFed (Done n) = pos n ∷ []
 valuesFed (Refused n) = []
 
 abbrev pub saidToFeed : Answer → Says
-saidToFeed (Ready r) = yes (valuesFed (Ready r))
-saidToFeed (More n) = yes (valuesFed (More n))
-saidToFeed (Done n) = yes (valuesFed (Done n))
+saidToFeed (Ready r) = yes (kindFed (Ready r)) (valuesFed (Ready r))
+saidToFeed (More n) = yes (kindFed (More n)) (valuesFed (More n))
+saidToFeed (Done n) = yes (kindFed (Done n)) (valuesFed (Done n))
 saidToFeed (Refused n) = no n
 
 abbrev pub saidToTurn : Outcome → Says
-saidToTurn Accepted = yes []
+saidToTurn Accepted = yes accepted []
 saidToTurn (NotAccepted n) = no n
 
 -- A frame comes with its start and the bytes skipped since the last frame; the reader keeps what it took behind it.
@@ -114,7 +120,7 @@ pub record Feeds (r : Reader) (offered : List ℕ) (f : Fed) : Type 0 where
       ≡ cond (not (isFamily (r .family))) (no noFamily)
       (cond (not (leb (r .count) (holds (r .family)))) (no holdsTooMuch)
       (cond (not (eqb (r .closed) 0) && not (eqb (length offered) 0)) (no isClosed)
-      (yes (valuesFed (fed r offered .answer)))))
+      (yes (kindFed (fed r offered .answer)) (valuesFed (fed r offered .answer)))))
 
 -- Closing: refusal 1, then 6. Closing twice is as once.
 unfoldable pub shut : Reader → Turned
@@ -128,7 +134,7 @@ pub record Shuts (r : Reader) (t : Turned) : Type 0 where
   pub says : saidToTurn (t .outcome)
       ≡ cond (not (isFamily (r .family))) (no noFamily)
       (cond (not (leb (r .count) (holds (r .family)))) (no holdsTooMuch)
-      (yes []))
+      (yes accepted []))
 
 -- A fresh reader of a family; where there is no such family, one that every call refuses.
 unfoldable pub fresh : ℕ → Turned
@@ -138,4 +144,4 @@ fresh family =
 
 pub record Makes (family : ℕ) (t : Turned) : Type 0 where
   pub answers : t ≡ fresh family
-  pub says : saidToTurn (t .outcome) ≡ cond (not (isFamily family)) (no noFamily) (yes [])
+  pub says : saidToTurn (t .outcome) ≡ cond (not (isFamily family)) (no noFamily) (yes accepted [])
