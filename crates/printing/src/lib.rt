@@ -6,6 +6,7 @@
 mod listing;
 mod replay;
 
+pub use listing::part_kind;
 pub use listing::print_listing;
 pub use replay::print_replay;
 ghost use mathlib.Core.Path.{_≡_};

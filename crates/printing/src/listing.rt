@@ -51,11 +51,12 @@ fn print_frame(family: u8, frame: &[u8], start: usize, skipped: usize) {
     let at = show::spaced(&mut line, at, frame.len() as u64);
     let at = show::spaced(&mut line, at, skipped as u64);
     let at = show::text(&mut line, at, b" ");
-    let end = kind(&mut line, at, family, frame);
+    let end = part_kind(&mut line, at, family, frame);
     show::print(&mut line, end);
 }
 
-fn kind(line: &mut [u8], at: usize, family: u8, frame: &[u8]) -> usize {
+// What kind of frame a part of a capture is.
+pub fn part_kind(line: &mut [u8], at: usize, family: u8, frame: &[u8]) -> usize {
     match frames::read_frame(family, frame) {
         Reading::Good(f) => show::kind(line, at, f),
         Reading::Refused(n) => show::refused(line, at, n),

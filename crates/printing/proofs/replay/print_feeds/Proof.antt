@@ -6,8 +6,7 @@ use mathlib.Core.List.{List}
 use native.Mathlib.Omega.{arith}
 use lib.ListN.{length, take, drop, length-take, length-drop}
 use borrow.Author.Needs.{needs}
-use Rattle.stream_laws.proofs.States.{Onward}
-use Rattle.seek_laws.proofs.Families.{goes-on}
+use Rattle.seek_laws.proofs.Families.{Fewer, offers-rest}
 use Rattle.printing.proofs.replay.print_feeds.Statement.{statement}
 use Rattle.printing.proofs.replay.print_feeds.Tie as tie
 
@@ -17,26 +16,11 @@ Inv-loop offered reader₀ at₀ reader at = at ≤ length offered
 abbrev μ-loop : tie.MeasureT-loop
 μ-loop offered reader₀ at₀ reader at = reader .count + (length offered - at)
 
--- what a call is offered: the rest of the bytes from a place on
-abbrev rest : List ℕ → ℕ → List ℕ
-rest bs at = take (length bs - at) (drop at bs)
-
-rest-length : (bs : List ℕ) (at : ℕ) → length (rest bs at) ≡ length bs - at
-rest-length bs at = omega (arith, length-take (length bs - at) (drop at bs), length-drop at bs)
-
 -- a frame was handed out, and the reader went on
 step : (c : tie.After-struct-known Inv-loop μ-loop)
     → let loop = c .before .before .before .before .before .before .before .before .before .loop in
-    Onward (loop .reader) (rest (c .before .before .before .before .before .before .before .before .before .before .before .args .offered .now) (loop .at))
-    (c .before .before .answer .given .0 .0 .taken) (c .before .before .before .before .before .before .feed .result .reader)
-step c = goes-on _ _ _ _ (c .before .before .before .before .before .before .feed .ensures) (c .before .before .answer .given .1)
-
-left : (c : tie.After-struct-known Inv-loop μ-loop)
-    → let loop = c .before .before .before .before .before .before .before .before .before .loop in
-    let offered = c .before .before .before .before .before .before .before .before .before .before .before .args .offered .now in
-    length (rest offered (loop .at)) ≡ length offered - loop .at
-left c =
-    rest-length (c .before .before .before .before .before .before .before .before .before .before .before .args .offered .now) (c .before .before .before .before .before .before .before .before .before .loop .at)
+    Fewer (loop .reader) (c .before .before .before .before .before .before .feed .result .reader) (c .before .before .before .before .before .before .before .before .before .before .before .args .offered .now) (loop .at) (c .before .before .answer .given .0 .0 .taken)
+step c = offers-rest _ _ _ _ _ (c .before .before .before .before .before .before .before .before .before .loop .inv) (c .before .before .before .before .before .before .feed .ensures) (c .before .before .answer .given .1)
 
 loop-holds : tie.Need-loop-holds Inv-loop μ-loop
 loop-holds c = search needs
@@ -63,13 +47,13 @@ returns : tie.Need-returns Inv-loop μ-loop
 returns c = search needs
 
 add-at : tie.Need-add-at Inv-loop μ-loop
-add-at c = omega (arith, step c .within, left c)
+add-at c = omega (arith, step c .inside)
 
 loop-less : tie.Need-loop-less Inv-loop μ-loop
-loop-less c = omega (arith, step c .within, step c .fewer, left c)
+loop-less c = step c .less
 
 loop-again : tie.Need-loop-again Inv-loop μ-loop
-loop-again c = omega (arith, step c .within, left c)
+loop-again c = step c .inside
 
 returns-2 : tie.Need-returns-2 Inv-loop μ-loop
 returns-2 c = search needs

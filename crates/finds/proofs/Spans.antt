@@ -1,0 +1,90 @@
+-- What is given stands in the capture from its start on: a frame does, and where there is none the part is the empty front.
+-- And with each frame the reader goes on.
+-- Assumes nothing.
+use Prim.Native.Nat.{ℕ, zero, suc, _+_, _≤_, _<_}
+use mathlib.Core.Path.{_≡_, refl, sym, ap, subst}
+use mathlib.Core.Bool.{Bool, true, false, _&&_, _||_, cond, not}
+use mathlib.Core.List.{List, []}
+use mathlib.Core.Logic.{_⊎_, inl, inr}
+use native.Mathlib.Omega.{arith}
+use borrow.Author.Tests.{lt-ltb}
+use lib.Dec.{leb, ltb}
+use lib.ListN.{length, drop, length-take}
+use Rattle.rules.specs.Bytes.{part}
+use Rattle.rules.specs.Answers.{isFamily}
+use Rattle.stream_rules.specs.Lister.{fits}
+use Rattle.leaves.specs.Leaves.{placeIn}
+use Rattle.seek.specs.Sought.{firstFrom}
+use Rattle.seek.specs.declared.First.{First}
+use Rattle.seek.specs.declared.First.the-variants.{At, Nothing}
+use Rattle.lister.proofs.Walk.{left, Next, next, no-next, at-end}
+use Rattle.finds.specs.declared.Span.{Span}
+use Rattle.finds.specs.Finds.{isReport, nothing, firstWanted, nextIn}
+
+-- A part of the bytes from the span's start on stands at that start. Either the part is empty, or the place reached is further
+-- on, and not past the end.
+pub record Spanned (bs : List ℕ) (place : ℕ) (s : Span) : Type 0 where
+  pub stands : placeIn (s .start) bs ≡ s .start
+  pub onward : (s .size ≡ 0) ⊎ ((place < s .behind) × (s .behind ≤ length bs))
+
+module _ (family : ℕ) (bs : List ℕ) (place : ℕ) (reports : Bool) where
+  none-spanned : Spanned bs place (nothing place)
+  none-spanned = record { stands = case (ltb 0 (length bs)); onward = inl refl }
+    where
+      case : (b : Bool) → _≡_ {A = ℕ} (cond b 0 0) 0
+      case true = refl
+      case false = refl
+
+  none-left : (at : ℕ) → left family bs at ≡ [] → Spanned bs place (firstWanted reports place (left family bs at))
+  unfolding firstWanted
+  none-left at e = subst (λ (l : Span). Spanned bs place l) (sym (ap (firstWanted reports place) e)) none-spanned
+
+  one-spanned : (start size : ℕ) (on : Span) → 0 < size → place ≤ start → start + size ≤ length bs → Spanned bs place on
+      → (wanted : Bool) → Spanned bs place (cond wanted (record { start = start; size = size; behind = start + size }) on)
+  one-spanned start size on some later there rest true = record {
+    stands = rw (lt-ltb start (length bs) (omega (arith, some, there)));
+    onward = inr (omega (arith, some, later), there);
+  }
+  one-spanned start size on some later there rest false = rest
+
+  -- one step along the capture, and the steps behind it
+  step : (fuel at : ℕ)
+      → ((next-at : ℕ) → place ≤ next-at → length bs < next-at + fuel → Spanned bs place (firstWanted reports place (left family bs next-at)))
+      → place ≤ at → length bs < at + suc fuel
+      → (x : First) → firstFrom family bs at ≡ x → Spanned bs place (firstWanted reports place (left family bs at))
+  unfolding firstWanted
+  step fuel at more later h Nothing e = none-left at (no-next family bs at e)
+  step fuel at more later h (At start size f) e =
+      let n : Next family bs at start size f = next family bs at start size f e in
+      subst
+      (λ (l : Span). Spanned bs place l)
+      (sym (ap (firstWanted reports place) (n .lists)))
+      (one-spanned start
+      size
+      (firstWanted reports place (left family bs (start + size)))
+      (n .some)
+      (omega (arith, n .place, later))
+      (n .there)
+      (more (start + size) (omega (arith, n .place, later)) (omega (arith, n .place, n .some)))
+      (not reports || isReport f))
+
+  from-there : (fuel at : ℕ) → place ≤ at → length bs < at + fuel → Spanned bs place (firstWanted reports place (left family bs at))
+  from-there zero at later h = none-left at (at-end family bs at (omega arith))
+  from-there (suc fuel) at later h = step fuel at (from-there fuel) later h (firstFrom family bs at) refl
+
+  pub spanned : Spanned bs place (nextIn family bs place reports)
+  unfolding nextIn
+  spanned = case (isFamily family && fits bs && leb place (length bs))
+    where
+      case : (b : Bool) → Spanned bs place (cond b (firstWanted reports place (left family bs place)) (nothing place))
+      case true = from-there (suc (length bs)) place (omega arith) (omega arith)
+      case false = none-spanned
+
+-- So where the part shows something, the place reached is further on.
+pub advances : (bs : List ℕ) (place : ℕ) (s : Span) → Spanned bs place s → (length (part (s .start) (s .size) bs) ≡ 0 → ⊥)
+    → (place < s .behind) × (s .behind ≤ length bs)
+advances bs place s spans some = case (spans .onward)
+  where
+    case : (s .size ≡ 0) ⊎ ((place < s .behind) × (s .behind ≤ length bs)) → (place < s .behind) × (s .behind ≤ length bs)
+    case (inl none) = absurd (some (omega (arith, length-take (s .size) (drop (s .start) bs), none)))
+    case (inr on) = on

@@ -1,0 +1,2 @@
+-- What a capture reader gives next.
+pub mod Finds

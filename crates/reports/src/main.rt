@@ -1,0 +1,75 @@
+// Runs a stream through the reader that is lent for each call, and prints only the reports: standard
+// input is the family's digit and the stream, which is offered in pieces of 16 bytes, then closed and
+// drained.
+use leaves::text;
+use lent::closed_lent;
+use lent::fed_lent;
+use rules::Frame;
+use std::num::wrapping_sub_u8;
+use stream_rules::Answer;
+use stream_rules::Outcome;
+use stream_rules::Reader;
+use stream_rules::Ready;
+
+fn main() {
+    let mut input = printing::input_buffer();
+    let n = io::read_full(libc::STDIN_FILENO, &mut input);
+    if n == 0 {
+        show::print_refused(1);
+        return;
+    }
+    print_stream(wrapping_sub_u8(input[0], b'0'), &input[1..n]);
+}
+
+fn print_stream(family: u8, stream: &[u8]) {
+    let made = stream::fresh_reader(family);
+    let outcome = made.outcome;
+    match outcome {
+        Outcome::Accepted => {
+            let closed = closed_lent(print_pieces(made.reader, stream));
+            print_reports(closed.reader, b"");
+        }
+        Outcome::Refused(n) => show::print_refused(n),
+    }
+}
+
+fn print_pieces(first: Reader, stream: &[u8]) -> Reader {
+    let mut reader = first;
+    let mut at = 0;
+    while at < stream.len() {
+        let piece = text(stream, at, 16);
+        reader = print_reports(reader, piece);
+        at += piece.len();
+    }
+    reader
+}
+
+// Offers the untaken rest again as long as a frame is handed out.
+fn print_reports(first: Reader, offered: &[u8]) -> Reader {
+    let mut reader = first;
+    let mut at = 0;
+    while at <= offered.len() {
+        let fed = fed_lent(reader, &offered[at..]);
+        let answer = fed.answer;
+        reader = fed.reader;
+        let Answer::Ready(r) = answer else {
+            return reader;
+        };
+        print_report(r);
+        at += r.taken;
+    }
+    reader
+}
+
+// A frame that is no status report is passed over.
+fn print_report(r: Ready) {
+    let frame = r.frame;
+    let Frame::Status(_) = frame else {
+        return;
+    };
+    let mut line = [0u8; 512];
+    let at = show::number(&mut line, 0, r.start as u64);
+    let at = show::text(&mut line, at, b" ");
+    let end = show::frame(&mut line, at, frame);
+    show::print(&mut line, end);
+}

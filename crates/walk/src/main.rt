@@ -1,0 +1,39 @@
+// Walks a capture to its end by the capture reader, twice: every frame, then only the reports.
+// Standard input is the family's digit and the capture. Each line has the place that the reader has
+// reached, the part's length and its kind.
+use captures::next_at;
+use std::num::wrapping_sub_u8;
+
+fn main() {
+    let mut input = printing::input_buffer();
+    let n = io::read_full(libc::STDIN_FILENO, &mut input);
+    if n == 0 {
+        show::print_refused(1);
+        return;
+    }
+    let family = wrapping_sub_u8(input[0], b'0');
+    show::print_text(b"every frame");
+    print_walk(family, &input[1..n], false);
+    show::print_text(b"only reports");
+    print_walk(family, &input[1..n], true);
+}
+
+fn print_walk(family: u8, capture: &[u8], reports: bool) {
+    let mut place = 0;
+    while place < capture.len() {
+        let frame = next_at(capture, &mut place, family, reports);
+        if frame.len() == 0 {
+            return;
+        }
+        print_frame(family, frame, place);
+    }
+}
+
+fn print_frame(family: u8, frame: &[u8], place: usize) {
+    let mut line = [0u8; 128];
+    let at = show::number(&mut line, 0, place as u64);
+    let at = show::spaced(&mut line, at, frame.len() as u64);
+    let at = show::text(&mut line, at, b" ");
+    let end = printing::part_kind(&mut line, at, family, frame);
+    show::print(&mut line, end);
+}
