@@ -1,18 +1,22 @@
 -- One step along a capture: the first good frame from a place on is the next that the rule finds there, and the rule goes
 -- on right behind it.
 -- Assumes nothing.
-use Prim.Native.Nat.{ℕ, _+_, _-_, _≤_, _<_}
+use Prim.Native.Nat.{ℕ, zero, suc, _+_, _-_, _*_, _≤_, _<_}
 use mathlib.Core.Path.{_≡_, refl, sym, ap, subst₃, _∙_}
+use mathlib.Core.Bool.{Bool, true, false, cond}
 use mathlib.Core.List.{List, [], _∷_}
 use native.Mathlib.Nat.{zero-add, add-assoc}
 use native.Mathlib.Omega.{arith}
-use lib.ListN.{length, drop, length-drop, drop-of-length-le}
+use lib.Dec.{eqb}
+use lib.ListN.{length, drop, getD, length-drop, drop-of-length-le}
 use lib.Seq.{drop-drop}
 use Rattle.rules.specs.declared.Frame.{Frame}
-use Rattle.stream_rules.specs.Heads.{longest, good, head, atClose}
+use Rattle.stream_rules.specs.Heads.{longest, needs, payloadRun, good, head, atClose}
 use Rattle.stream_rules.specs.Rule.{Found, rule, Look, ready, waiting, look, byLook}
+use Rattle.stream_rules.specs.Lister.{frames}
 use Rattle.stream_laws.proofs.Looks.{found, drains, rule-drains, FrameFirst, look-ready, closed-good}
 use Rattle.head_laws.proofs.Heads.{GoodHead, good-head}
+use Rattle.head_laws.proofs.PacketStarts.{needs-six}
 use Rattle.seek_laws.proofs.Families.{facts}
 use Rattle.seek.specs.Sought.{firstFrom}
 use Rattle.seek.specs.declared.First.{First}
@@ -27,8 +31,18 @@ pub record Next (family : ℕ) (bs : List ℕ) (at start size : ℕ) (f : Frame)
   pub skipped : ℕ
   pub place : start ≡ at + skipped
   pub some : 0 < size
+  pub six : 6 ≤ size
   pub there : start + size ≤ length bs
   pub lists : left family bs at ≡ found start skipped size f ∷ left family bs (start + size)
+
+-- No frame has fewer than six bytes: a count that is allowed needs six or more, and a sentence has six besides its payload.
+six : (family : ℕ) (bs : List ℕ) (n : ℕ) (f : Frame) → GoodHead family bs n f → 6 ≤ n
+six family bs n f g = omega (arith, g .declared, case (eqb family 2) (omega (arith, g .some, g .declared)))
+  where
+    case : (b : Bool) → 0 < cond b (length (payloadRun (drop 1 bs)) + 6) (needs family (getD bs 3 0))
+        → 6 ≤ cond b (length (payloadRun (drop 1 bs)) + 6) (needs family (getD bs 3 0))
+    case true h = omega arith
+    case false h = needs-six family (getD bs 3 0) h
 
 module _ (family : ℕ) (bs : List ℕ) (at : ℕ) where
   from-look : (k n : ℕ) (f : Frame) (behind : List ℕ) → look (atClose (head family)) (drop at bs) ≡ ready k n f behind → Next family bs at (at + k) n f
@@ -41,6 +55,7 @@ module _ (family : ℕ) (bs : List ℕ) (at : ℕ) where
         skipped = k;
         place = refl;
         some = whole .some;
+        six = six family (drop k (drop at bs)) n f whole;
         there = omega (arith, whole .some, whole .there, length-drop k (drop at bs), length-drop at bs);
         lists = rule-drains (head family) (longest family) (facts family) (drop at bs) at 0
             ∙ ap (drains (head family) at 0) e
@@ -74,3 +89,20 @@ module _ (family : ℕ) (bs : List ℕ) (at : ℕ) where
 pub at-end : (family : ℕ) (bs : List ℕ) (at : ℕ) → length bs ≤ at → left family bs at ≡ []
 unfolding rule
 at-end family bs at h = ap (rule (head family) 0 at 0) (drop-of-length-le bs h)
+
+-- So there are at most a sixth as many frames left as bytes.
+module _ (family : ℕ) (bs : List ℕ) where
+  step : (fuel at : ℕ) → ((next-at : ℕ) → length bs < next-at + fuel → 6 * length (left family bs next-at) ≤ length bs - next-at)
+      → length bs < at + suc fuel → (x : First) → firstFrom family bs at ≡ x → 6 * length (left family bs at) ≤ length bs - at
+  step fuel at more h Nothing e = rw (no-next family bs at e) (omega arith)
+  step fuel at more h (At start size f) e =
+      let n : Next family bs at start size f = next family bs at start size f e in
+      let rest : 6 * length (left family bs (start + size)) ≤ length bs - (start + size) = more (start + size) (omega (arith, n .place, n .some)) in
+      omega (arith, ap length (n .lists), rest, n .six, n .there, n .place)
+
+  from-there : (fuel at : ℕ) → length bs < at + fuel → 6 * length (left family bs at) ≤ length bs - at
+  from-there zero at h = rw (at-end family bs at (omega arith)) (omega arith)
+  from-there (suc fuel) at h = step fuel at (from-there fuel) h (firstFrom family bs at) refl
+
+  pub few-frames : 6 * length (frames family bs) ≤ length bs
+  few-frames = omega (arith, from-there (suc (length bs)) 0 (omega arith))

@@ -5,10 +5,10 @@ use seek::First;
 use seek::first_good;
 use stream_rules::Listed;
 ghost use mathlib.Core.Path.{_≡_};
-ghost use mathlib.Core.List.{_++_};
 ghost use Prim.Native.Nat.{_≤_};
-ghost use lib.ListN.{length, drop};
-ghost use Rattle.stream_rules.specs.Lister.{frames, startsOf, Lists, NextFrame};
+ghost use lib.ListN.{length};
+ghost use Rattle.stream_rules.specs.Lister.{frames, Lists, NextFrame};
+ghost use Rattle.lister.specs.Fills.{Fills};
 
 // How many frames a capture holds.
 fn count_frames(family: u8, capture: &[u8]) -> usize
@@ -27,22 +27,23 @@ fn count_frames(family: u8, capture: &[u8]) -> usize
     n
 }
 
-// Fills in the starts, for which there is room.
-fn fill_starts(family: u8, capture: &[u8], starts: &mut [u32])
+// Fills in the starts, for which there is room, and gives how many there are.
+fn fill_starts(family: u8, capture: &[u8], starts: &mut [u32]) -> usize
     requires { ⌜ length (now capture) ≤ 65536 ⌝ }
     requires { ⌜ length (frames family (now capture)) ≤ length (now starts) ⌝ }
-    ensures { λ _. ⌜ now (starts .exit) ≡ startsOf (frames family (now (capture .entry))) ++ drop (length (frames family (now (capture .entry)))) (now (starts .entry)) ⌝ }
+    ensures { λ r. ⌜ Fills family (now (capture .entry)) (now (starts .entry)) r (now (starts .exit)) ⌝ }
 {
     let mut at = 0;
     let mut n = 0;
     while at < capture.len() {
         let First::At(start, size, _) = first_good(family, capture, at) else {
-            return;
+            return n;
         };
         starts[n] = start as u32;
         n += 1;
         at = start + size;
     }
+    n
 }
 
 // The starts of the frames in a capture, and how many there are: refusal 1, then 7, then 4.
@@ -55,12 +56,14 @@ pub fn list_frames(family: u8, capture: &[u8], starts: &mut [u32]) -> Listed
     if 65536 < capture.len() {
         return Listed::Refused(7);
     }
-    let n = count_frames(family, capture);
-    if starts.len() < n {
+    // a frame has at least six bytes: here there is room, and one pass is enough
+    if capture.len() / 6 <= starts.len() {
+        return Listed::Count(fill_starts(family, capture, starts));
+    }
+    if starts.len() < count_frames(family, capture) {
         return Listed::Refused(4);
     }
-    fill_starts(family, capture, starts);
-    Listed::Count(n)
+    Listed::Count(fill_starts(family, capture, starts))
 }
 
 // The earliest good frame from a place on, as a part of the capture, or the empty part.

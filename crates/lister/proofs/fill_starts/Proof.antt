@@ -14,6 +14,7 @@ use lib.Seq.{take-all, getD-drop, drop-drop}
 use Rattle.rules.specs.declared.Frame.{Frame}
 use Rattle.stream_rules.specs.Rule.{Found}
 use Rattle.stream_rules.specs.Lister.{frames, startsOf}
+use Rattle.lister.specs.Fills.{Fills}
 use Rattle.lister.proofs.Walk.{left, Next, next, no-next, at-end}
 use Rattle.lister.proofs.fill_starts.Statement.{statement}
 use Rattle.lister.proofs.fill_starts.Tie as tie
@@ -63,12 +64,14 @@ module _ (family : ℕ) (bs out₀ out : List ℕ) (at n : ℕ) (filled : Filled
     }
 
   -- with none left all starts are filled in
-  ends : left family bs at ≡ [] → out ≡ all family bs ++ drop (length (frames family bs)) out₀
+  ends : left family bs at ≡ [] → Fills family bs out₀ n out
   ends none =
       let full : n ≡ length (all family bs) = omega (arith, filled .some, ap length (sym (filled .come) ∙ ap startsOf none), length-drop n (all family bs)) in
       let every-one : n ≡ length (frames family bs) = full ∙ length-map (frames family bs) (λ (x : Found). x .start) in
-      filled .front
-      ∙ (λ i. take-all n (all family bs) (omega (arith, full)) i ++ drop (every-one i) out₀)
+      record {
+        count = every-one;
+        content = filled .front ∙ (λ i. take-all n (all family bs) (omega (arith, full)) i ++ drop (every-one i) out₀);
+      }
 
 abbrev Inv-loop : tie.InvT-loop
 Inv-loop family capture starts₀ at₀ n₀ starts at n = Filled family capture starts₀ starts at n

@@ -1,6 +1,6 @@
 -- `lister::list_frames` meets its contract: its three tests are the refusals, in their order.
 -- Assumes nothing.
-use Prim.Native.Nat.{ℕ}
+use Prim.Native.Nat.{ℕ, _/_, _≤_}
 use mathlib.Core.Path.{_≡_, sym, ap, _∙_}
 use mathlib.Core.Bool.{Bool, true, false, _&&_, cond, not}
 use mathlib.Core.List.{List, _++_}
@@ -14,6 +14,7 @@ use Rattle.stream_rules.specs.Lister.{frames, startsOf, fits, Lists}
 use Rattle.stream_rules.specs.declared.Listed.{Listed}
 use Rattle.stream_rules.specs.declared.Listed.the-variants.{Count, Refused}
 use Rattle.stream_laws.proofs.Saying.{lists}
+use Rattle.lister.proofs.Walk.{few-frames}
 use Rattle.lister.proofs.list_frames.Statement.{statement}
 use Rattle.lister.proofs.list_frames.Tie as tie
 
@@ -42,6 +43,10 @@ module _ (family : ℕ) (bs out : List ℕ) where
   counts e g r n left count content =
       lists (ap Count count ∙ (λ i. answer (sym e i) (sym g i) (sym r i))) (content ∙ (λ i. after (sym e i) (sym g i) (sym r i)))
 
+-- where a sixth as many places as bytes are lent, there is room
+room-for-all : (family : ℕ) (bs out : List ℕ) → length bs / 6 ≤ length out → length (frames family bs) ≤ length out
+room-for-all family bs out h = omega (arith, few-frames family bs, h)
+
 -- where the family's test has been passed
 a-family : (c : tie.Else1) → isFamily (c .before .before .before .before .before .args .family) ≡ true
 a-family c = sym (c .before .one-of .ensures) ∙ not-false _ (c .if1 .left)
@@ -62,31 +67,46 @@ returns-2 c =
     let a = c .before .before .before .before .before .before .args in
     too-long (a .family) (a .capture .now) (a .starts .now) (a-family (c .before)) (lt-leb (length (a .capture .now)) 65536 (c .if2 .taken))
 
-count-frames-requires : tie.Need-count-frames-requires
-count-frames-requires c κs = search needs
-
-returns-3 : tie.Need-returns-3
-returns-3 c =
-    let a = c .before .before .before .before .before .before .before .before .args in
-    let n = length (frames (a .family) (a .capture .now)) in
-    no-room (a .family) (a .capture .now) (a .starts .now) (a-family (c .before .before .before))
-    (le-leb (length (a .capture .now)) 65536 (c .before .before .if2 .left))
-    (lt-leb n (length (a .starts .now)) (omega (arith, c .before .count-frames .ensures)))
-
 fill-starts-requires : tie.Need-fill-starts-requires
-fill-starts-requires c κs = search needs
+fill-starts-requires c κs =
+    let a = c .before .before .before .before .before .before .before .before .args in
+    (c .before .before .if2 .left, room-for-all (a .family) (a .capture .now) (a .starts .now) (c .before .if3 .taken))
 
 same-length : tie.Need-same-length
 same-length c = search needs
 
+returns-3 : tie.Need-returns-3
+returns-3 c =
+    let a = c .before .before .before .before .before .before .before .before .before .before .before .args in
+    let done = c .before .before .fill-starts .ensures in
+    counts (a .family) (a .capture .now) (a .starts .now) (a-family (c .before .before .before .before .before .before)) (le-leb (length (a .capture .now)) 65536 (c .before .before .before .before .before .if2 .left))
+    (le-leb (length (frames (a .family) (a .capture .now))) (length (a .starts .now)) (room-for-all (a .family) (a .capture .now) (a .starts .now) (c .before .before .before .before .if3 .taken)))
+    _ _ (done .count) (done .content)
+
+count-frames-requires : tie.Need-count-frames-requires
+count-frames-requires c κs = search needs
+
 returns-4 : tie.Need-returns-4
 returns-4 c =
-    let a = c .before .before .before .before .before .before .before .before .before .before .before .before .args in
+    let a = c .before .before .before .before .before .before .before .before .before .args in
     let n = length (frames (a .family) (a .capture .now)) in
-    counts (a .family) (a .capture .now) (a .starts .now) (a-family (c .before .before .before .before .before .before .before))
-    (le-leb (length (a .capture .now)) 65536 (c .before .before .before .before .before .before .if2 .left))
-    (le-leb n (length (a .starts .now)) (omega (arith, c .before .before .before .before .before .count-frames .ensures)))
-    _ _ (c .before .before .before .before .before .count-frames .ensures) (c .before .before .fill-starts .ensures)
+    no-room (a .family) (a .capture .now) (a .starts .now) (a-family (c .before .before .before .before)) (le-leb (length (a .capture .now)) 65536 (c .before .before .before .if2 .left))
+    (lt-leb n (length (a .starts .now)) (omega (arith, c .if4 .taken, c .before .count-frames .ensures)))
+
+fill-starts-requires-2 : tie.Need-fill-starts-requires-2
+fill-starts-requires-2 c κs = search needs
+
+same-length-2 : tie.Need-same-length-2
+same-length-2 c = search needs
+
+returns-5 : tie.Need-returns-5
+returns-5 c =
+    let a = c .before .before .before .before .before .before .before .before .before .before .before .before .before .args in
+    let n = length (frames (a .family) (a .capture .now)) in
+    let done = c .before .before .fill-starts2 .ensures in
+    counts (a .family) (a .capture .now) (a .starts .now) (a-family (c .before .before .before .before .before .before .before .before)) (le-leb (length (a .capture .now)) 65536 (c .before .before .before .before .before .before .before .if2 .left))
+    (le-leb n (length (a .starts .now)) (omega (arith, c .before .before .before .before .if4 .left, c .before .before .before .before .before .count-frames .ensures)))
+    _ _ (done .count) (done .content)
 
 pub list-frames-spec : {M : Type 1} → statement M
 list-frames-spec =
@@ -96,8 +116,11 @@ list-frames-spec =
     one-of-requires
     returns
     returns-2
-    count-frames-requires
-    returns-3
     fill-starts-requires
     same-length
-    returns-4)
+    returns-3
+    count-frames-requires
+    returns-4
+    fill-starts-requires-2
+    same-length-2
+    returns-5)

@@ -1,0 +1,2 @@
+-- What the part of the lister that fills the list gives.
+pub mod Fills
