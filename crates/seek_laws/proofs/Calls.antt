@@ -1,60 +1,18 @@
--- What settles the answer of a call, for code that does not take its bytes one by one: the looks at what is held and
--- taken; and the call on a first piece of the bytes, which the call on the rest goes on from. No two answers have the same
--- looks, and a call on two pieces goes byte by byte. Assumes nothing.
+-- A call on a first piece of the bytes, which the call on the rest goes on from: a call on two pieces goes byte by byte.
+-- Assumes nothing.
 use Prim.Native.Nat.{ℕ, zero, suc, _+_, _<_}
-use mathlib.Core.Path.{_≡_, refl, ap, subst, _∙_}
-use mathlib.Core.List.{List, [], _∷_, _++_, append-assoc}
+use mathlib.Core.Path.{_≡_, refl, ap, _∙_}
+use mathlib.Core.List.{List, [], _∷_, _++_}
 use native.Mathlib.Nat.{add-zero, zero-add, suc-add, add-assoc}
-use native.Mathlib.Decide.{decLt}
 use native.Mathlib.Omega.{arith}
-use lib.ListN.{length, take, drop, take-append-drop}
-use lib.Seq.{take-all}
+use lib.ListN.{length}
 use Rattle.rules.specs.declared.Frame.{Frame}
 use Rattle.stream_rules.specs.Heads.{Head, wait}
 use Rattle.stream_rules.specs.Rule.{Look, ready, waiting, byLook, look, Call, gives, wants, took, call}
 use Rattle.stream_laws.proofs.Facts.{Facts}
-use Rattle.stream_laws.proofs.Looks.{further, look-on, kept-waits}
-use Rattle.stream_laws.proofs.Calls.{Waits, Handed, call-gives, call-wants, wants-short}
+use Rattle.stream_laws.proofs.Looks.{kept-waits}
+use Rattle.stream_laws.proofs.Calls.{call-wants, wants-short}
 use Rattle.seek_laws.proofs.Starts.{look-at-wait}
-
--- A call by its looks.
-module _ {h : List ℕ → Head} {top : ℕ} (facts : Facts h top) (held offered : List ℕ) where
-  -- The frame that is ready with some of the bytes offered, where none is with fewer, is the one given.
-  pub call-is-gives : (taken k n : ℕ) (f : Frame) (kept : List ℕ) → Handed h held offered taken k n f kept → call h held offered ≡ gives taken k n f kept
-  call-is-gives taken k n f kept given = go (call h held offered) refl
-    where
-      go : (c : Call) → call h held offered ≡ c → call h held offered ≡ gives taken k n f kept
-      go (gives t j m g rest) e =
-          let other = call-gives h top facts held offered t j m g rest e in
-          elim (decLt t taken) [
-            | yes sooner ↦ absurd (subst Waits (other .looks) (given .none-sooner t sooner))
-            | no not-sooner ↦ elim (decLt taken t) [
-              | yes later ↦ absurd (subst Waits (given .looks) (other .none-sooner taken later))
-              | no not-later ↦ let same : t ≡ taken = omega arith in cc
-            ]
-          ]
-      go (wants t j rest) e =
-          let other = call-wants h top facts held offered t j rest e in
-          elim (decLt taken t) [
-            | yes later ↦ absurd (subst Waits (given .looks) (other .none-sooner taken later))
-            | no not-later ↦ let all : take taken offered ≡ offered = take-all taken offered (omega (arith, other .everything)) in
-                let z : _≡_ {A = ℕ} 0 1 = cc in
-                absurd (omega arith)
-          ]
-
-  -- Where none is ready with all of them, more is wanted.
-  pub call-is-wants : (k : ℕ) (rest : List ℕ) → look h (held ++ offered) ≡ waiting k rest → call h held offered ≡ wants (length offered) k rest
-  call-is-wants k rest none = go (call h held offered) refl
-    where
-      go : (c : Call) → call h held offered ≡ c → call h held offered ≡ wants (length offered) k rest
-      go (gives t j m g kept) e =
-          let other = call-gives h top facts held offered t j m g kept e in
-          let cut : held ++ take t offered ++ drop t offered ≡ held ++ offered = append-assoc held (take t offered) (drop t offered) ∙ ap (λ (l : List ℕ). held ++ l) (take-append-drop t offered) in
-          let on : look h (held ++ take t offered ++ drop t offered) ≡ ready j m g (kept ++ drop t offered) =
-          look-on h top facts (drop t offered) (held ++ take t offered) ∙ ap (further h (drop t offered)) (other .looks) in
-          let z : _≡_ {A = ℕ} 0 1 = cc in
-          absurd (omega arith)
-      go (wants t j kept) e = let other = call-wants h top facts held offered t j kept e in cc
 
 -- A call, after others that took t bytes and skipped s.
 abbrev pub after : ℕ → ℕ → Call → Call

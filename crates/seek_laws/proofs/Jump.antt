@@ -16,11 +16,10 @@ use Rattle.stream_rules.specs.Rule.{Look, ready, waiting, look, gives, call}
 use Rattle.head_laws.proofs.Course.{Settles}
 use Rattle.head_laws.proofs.Heads.{settling, good-head}
 use Rattle.stream_laws.proofs.Looks.{look-ready, further, look-on}
-use Rattle.stream_laws.proofs.Calls.{Waits, Handed, gives-short}
+use Rattle.stream_laws.proofs.Calls.{Waits, Handed, gives-short, handed-call}
 use Rattle.stream_laws.proofs.States.{longest-fits}
 use Rattle.seek_laws.proofs.Families.{facts}
 use Rattle.seek_laws.proofs.Starts.{look-at-good}
-use Rattle.seek_laws.proofs.Calls.{call-is-gives}
 
 -- a start of a front is a front of the start
 drop-take : (j p : ℕ) (bs : List ℕ) → drop j (take p bs) ≡ take (p - j) (drop j bs)
@@ -151,7 +150,7 @@ module _ (family : ℕ) (held offered : List ℕ) (k n : ℕ) (f : Frame) (behin
   unfolding kept
   jump =
       let covers : k + n ≤ reach family (suc k) (held ++ offered) = reach-frame family (held ++ offered) k n f behind e in
-      let given : call (head family) held offered ≡ gives (p - length held) k n f kept = call-is-gives (facts family) held offered (p - length held) k n f kept handed in
+      let given : call (head family) held offered ≡ gives (p - length held) k n f kept = handed-call (head family) (longest family) (facts family) held offered (p - length held) k n f kept handed in
       let count : length kept ≡ p - (k + n) = length-slice (k + n) p (held ++ offered) there in
       let few : length held < longest family → p - (k + n) < longest family =
       λ s. subst (λ (i : ℕ). i < longest family) count (gives-short (head family) (longest family) (facts family) held offered (p - length held) k n f kept given s) in

@@ -15,7 +15,8 @@ use Rattle.stream_rules.specs.Settled.{settled, reach}
 use Rattle.head_laws.proofs.Heads.{GoodHead, good-head}
 use Rattle.stream_laws.proofs.Looks.{FrameFirst, OpenFirst, look-ready, look-waiting}
 use Rattle.seek_laws.proofs.Families.{facts}
-use Rattle.seek_laws.proofs.Calls.{call-is-wants, piece-keeps}
+use Rattle.stream_laws.proofs.Calls.{wanted-call}
+use Rattle.seek_laws.proofs.Calls.{piece-keeps}
 use Rattle.seek_laws.proofs.Jump.{Jump, jump, upTo}
 use Rattle.seek.specs.Sought.{soughtIn}
 use Rattle.seek.specs.declared.Hit.{Hit}
@@ -70,7 +71,7 @@ module _ (family : ℕ) (work : List ℕ) (count t s : ℕ) (there : count ≤ l
   cut-waiting at e =
       let found = waits family work at e in
       let here : look (head family) (take count work ++ drop count work) ≡ waiting at (found .0) = ap (look (head family)) both ∙ found .1 in
-      let is : callOn family work count ≡ wants (length (drop count work)) at (found .0) = call-is-wants (facts family) (take count work) (drop count work) at (found .0) here in
+      let is : callOn family work count ≡ wants (length (drop count work)) at (found .0) = wanted-call (head family) (longest family) (facts family) (take count work) (drop count work) at (found .0) here in
       let open-start : OpenFirst (head family) work at (found .0) = look-waiting (head family) work at (found .0) (found .1) in
       let short = piece-keeps (facts family) (take count work) (drop count work) (length (drop count work)) at (found .0) is .1 in
       let all : take (length work - at) (drop at work) ≡ drop at work = take-all (length work - at) (drop at work) (omega (arith, length-drop at work)) in

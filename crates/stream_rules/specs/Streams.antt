@@ -49,7 +49,8 @@ abbrev pub holdsTooMuch : ℕ
 holdsTooMuch = 6
 
 -- What the answers say in the terms of document 01. A call gives a frame, wants more or is done. Its values: the bytes
--- taken; with a frame also its start, the bytes skipped, its length, and the frame's own values.
+-- taken; with a frame also its start, the bytes skipped, its length, and the frame's own values. A refusal has neither kind
+-- nor values; what stands for them here is never said.
 abbrev pub kindFed : Answer → Kind
 kindFed (Ready r) = kindOf (r .frame)
 kindFed (More n) = moreWanted

@@ -1,4 +1,5 @@
--- `finds::find` meets its contract. The loop's invariant: what is wanted is the first wanted of the frames that are left. The measure is what is left of the capture.
+-- `finds::find` meets its contract. The loop's invariant: what is wanted is the first wanted of the frames that are left.
+-- The measure is what is left of the capture.
 -- Assumes nothing.
 use Prim.Native.Nat.{ℕ, _+_, _-_}
 use mathlib.Core.Path.{_≡_, refl, sym, ap, _∙_}
