@@ -2,7 +2,9 @@
 // them stand in specs/.
 use rules::Frame;
 
-// A reader of one family's stream. Every value of it is a legal argument: the calls answer or refuse.
+// A reader of one family's stream. Every value of it is a legal argument: the calls answer or refuse. A
+// C program holds one too, so its fields lie as C lays them, without gaps: 144 bytes.
+#[repr(C)]
 pub struct Reader {
     pub family: u8,
     // 0 until it is closed; any other value is closed
