@@ -1,6 +1,8 @@
 // The reader of one frame: a family number and lent bytes give the frame, or a refusal.
 use rules::Reading;
-ghost use Rattle.rules.specs.Answers.{Reads};
+ghost use mathlib.Core.Path.{_≡_};
+ghost use Rattle.rules.specs.Answers.{Reads, readOne};
+ghost use Rattle.frames.specs.Good.{isGood};
 
 // The whole of the bytes is one good frame of the family, or it is refused: 1 where there is no such
 // family, else 8.
@@ -17,4 +19,14 @@ pub fn read_frame(family: u8, bytes: &[u8]) -> Reading
         return spe::read_command(bytes);
     }
     Reading::Refused(1)
+}
+
+// Whether the whole of the bytes is one good frame of the family.
+pub fn is_good(family: u8, bytes: &[u8]) -> bool
+    ensures { λ r. ⌜ r ≡ isGood (readOne family (now (bytes .entry))) ⌝ }
+{
+    match read_frame(family, bytes) {
+        Reading::Good(_) => true,
+        Reading::Refused(_) => false,
+    }
 }

@@ -127,7 +127,7 @@ module _ (family : ℕ) (spe : family ≡ 2 → ⊥) (bs : List ℕ) where
   needed = needs family (getD bs 3 0)
 
   -- a good frame at the head has the marks, and as many bytes as its count needs
-  good-start : (n : ℕ) (f : Frame) → readOne family (take n bs) ≡ Good f
+  pub good-start : (n : ℕ) (f : Frame) → readOne family (take n bs) ≡ Good f
       → Marks family 3 bs × (needed ≡ length (take n bs)) × (4 ≤ length (take n bs))
   good-start n f e =
       let c = good-framed family (take n bs) f spe e in

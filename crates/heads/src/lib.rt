@@ -19,14 +19,14 @@ pub enum Seen {
 }
 
 // The mark of an SPE family.
-fn mark_of(family: u8) -> u8
+pub fn mark_of(family: u8) -> u8
     ensures { λ r. ⌜ r ≡ markOf family ⌝ }
 {
     if family == 3 { 0x55 } else { 0xAA }
 }
 
 // How many bytes a count needs; 0 where it is not allowed.
-fn bytes_needed(family: u8, count: u8) -> usize
+pub fn bytes_needed(family: u8, count: u8) -> usize
     ensures { λ r. ⌜ r ≡ needs family count ⌝ }
 {
     if count == 0x01 {
@@ -86,7 +86,7 @@ fn examine_packet(family: u8, s: &[u8]) -> Seen
 }
 
 // How many payload bytes the bytes begin with, counted to 129.
-fn payload_bytes(p: &[u8]) -> usize
+pub fn payload_bytes(p: &[u8]) -> usize
     ensures { λ r. ⌜ r ≡ min (length (payloadRun (now (p .entry)))) 129 ⌝ }
 {
     let mut n = 0;

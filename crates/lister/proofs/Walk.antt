@@ -3,24 +3,24 @@
 -- Assumes nothing.
 use Prim.Native.Nat.{ℕ, zero, suc, _+_, _-_, _*_, _≤_, _<_}
 use mathlib.Core.Path.{_≡_, refl, sym, ap, subst₃, _∙_}
-use mathlib.Core.Bool.{Bool, true, false, cond}
 use mathlib.Core.List.{List, [], _∷_}
 use native.Mathlib.Nat.{zero-add, add-assoc}
 use native.Mathlib.Omega.{arith}
-use lib.Dec.{eqb}
-use lib.ListN.{length, drop, getD, length-drop, drop-of-length-le}
+use lib.ListN.{length, drop, length-drop, drop-of-length-le}
 use lib.Seq.{drop-drop}
 use Rattle.rules.specs.declared.Frame.{Frame}
-use Rattle.stream_rules.specs.Heads.{longest, needs, payloadRun, good, head, atClose}
+use Rattle.stream_rules.specs.Heads.{longest, good, head, atClose}
 use Rattle.stream_rules.specs.Rule.{Found, rule, Look, ready, waiting, look, byLook}
 use Rattle.stream_rules.specs.Lister.{frames}
 use Rattle.stream_laws.proofs.Looks.{found, drains, rule-drains, FrameFirst, look-ready, closed-good}
 use Rattle.head_laws.proofs.Heads.{GoodHead, good-head}
-use Rattle.head_laws.proofs.PacketStarts.{needs-six}
 use Rattle.seek_laws.proofs.Families.{facts}
 use Rattle.seek.specs.Sought.{firstFrom}
 use Rattle.seek.specs.declared.First.{First}
 use Rattle.seek.specs.declared.First.the-variants.{At, Nothing}
+use Rattle.places.specs.Places.{placeIn}
+use Rattle.places.specs.declared.Place.{Place}
+use Rattle.places.proofs.Sizes.{six}
 
 -- what is left to list from a place on
 abbrev pub left : ℕ → List ℕ → ℕ → List Found
@@ -34,15 +34,6 @@ pub record Next (family : ℕ) (bs : List ℕ) (at start size : ℕ) (f : Frame)
   pub six : 6 ≤ size
   pub there : start + size ≤ length bs
   pub lists : left family bs at ≡ found start skipped size f ∷ left family bs (start + size)
-
--- No frame has fewer than six bytes: a count that is allowed needs six or more, and a sentence has six besides its payload.
-six : (family : ℕ) (bs : List ℕ) (n : ℕ) (f : Frame) → GoodHead family bs n f → 6 ≤ n
-six family bs n f g = omega (arith, g .declared, case (eqb family 2) (omega (arith, g .some, g .declared)))
-  where
-    case : (b : Bool) → 0 < cond b (length (payloadRun (drop 1 bs)) + 6) (needs family (getD bs 3 0))
-        → 6 ≤ cond b (length (payloadRun (drop 1 bs)) + 6) (needs family (getD bs 3 0))
-    case true h = omega arith
-    case false h = needs-six family (getD bs 3 0) h
 
 module _ (family : ℕ) (bs : List ℕ) (at : ℕ) where
   from-look : (k n : ℕ) (f : Frame) (behind : List ℕ) → look (atClose (head family)) (drop at bs) ≡ ready k n f behind → Next family bs at (at + k) n f
@@ -84,6 +75,34 @@ module _ (family : ℕ) (bs : List ℕ) (at : ℕ) where
       case : (l : Look) → byLook l (λ k n g behind. At (at + k) n g) (λ k rest. Nothing) ≡ Nothing → drains (head family) at 0 l ≡ []
       case (waiting k rest) p = refl
       case (ready k n g behind) p = let z : _≡_ {A = ℕ} 0 1 = cc in absurd (omega arith)
+
+  -- The same from the place and the length alone.
+  abbrev placeOf : First → Place
+  placeOf (At start size f) = record { start = start; size = size }
+  placeOf Nothing = record { start = 0; size = 0 }
+
+  same-place : placeIn family bs at ≡ placeOf (firstFrom family bs at)
+  unfolding placeIn firstFrom
+  same-place = case (look (atClose (head family)) (drop at bs))
+    where
+      case : (l : Look) → byLook l (λ k n f behind. record { start = at + k; size = n }) (λ k rest. record { start = 0; size = 0 })
+          ≡ placeOf (byLook l (λ k n f behind. At (at + k) n f) (λ k rest. Nothing))
+      case (waiting k rest) = refl
+      case (ready k n f behind) = refl
+
+  pub next-place : (p : Place) → p ≡ placeIn family bs at → (p .size ≡ 0 → ⊥) → (f : Frame) × Next family bs at (p .start) (p .size) f
+  next-place p e some = case (firstFrom family bs at) refl (e ∙ same-place)
+    where
+      case : (x : First) → firstFrom family bs at ≡ x → p ≡ placeOf x → (f : Frame) × Next family bs at (p .start) (p .size) f
+      case Nothing is q = absurd (some (ap (λ (r : Place). r .size) q))
+      case (At start size f) is q = (f, rw q (next start size f is))
+
+  pub no-place : (p : Place) → p ≡ placeIn family bs at → p .size ≡ 0 → left family bs at ≡ []
+  no-place p e none = case (firstFrom family bs at) refl (e ∙ same-place)
+    where
+      case : (x : First) → firstFrom family bs at ≡ x → p ≡ placeOf x → left family bs at ≡ []
+      case Nothing is q = no-next is
+      case (At start size f) is q = absurd (omega (arith, next start size f is .some, ap (λ (r : Place). r .size) q))
 
 -- At the end nothing is left.
 pub at-end : (family : ℕ) (bs : List ℕ) (at : ℕ) → length bs ≤ at → left family bs at ≡ []

@@ -1,6 +1,7 @@
 // The lister: the starts of all frames in a capture, and the earliest frame from a place on.
 use leaves::one_of;
 use leaves::text;
+use places::first_place;
 use seek::First;
 use seek::first_good;
 use stream_rules::Listed;
@@ -18,11 +19,12 @@ fn count_frames(family: u8, capture: &[u8]) -> usize
     let mut at = 0;
     let mut n = 0;
     while at < capture.len() {
-        let First::At(start, size, _) = first_good(family, capture, at) else {
+        let place = first_place(family, capture, at);
+        if place.size == 0 {
             return n;
-        };
+        }
         n += 1;
-        at = start + size;
+        at = place.start + place.size;
     }
     n
 }
@@ -36,12 +38,13 @@ fn fill_starts(family: u8, capture: &[u8], starts: &mut [u32]) -> usize
     let mut at = 0;
     let mut n = 0;
     while at < capture.len() {
-        let First::At(start, size, _) = first_good(family, capture, at) else {
+        let place = first_place(family, capture, at);
+        if place.size == 0 {
             return n;
-        };
-        starts[n] = start as u32;
+        }
+        starts[n] = place.start as u32;
         n += 1;
-        at = start + size;
+        at = place.start + place.size;
     }
     n
 }

@@ -4,3 +4,4 @@ pub mod Families
 pub mod Starts
 pub mod Calls
 pub mod Jump
+pub mod Walks

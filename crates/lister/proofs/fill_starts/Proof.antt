@@ -15,7 +15,7 @@ use Rattle.rules.specs.declared.Frame.{Frame}
 use Rattle.stream_rules.specs.Rule.{Found}
 use Rattle.stream_rules.specs.Lister.{frames, startsOf}
 use Rattle.lister.specs.Fills.{Fills}
-use Rattle.lister.proofs.Walk.{left, Next, next, no-next, at-end}
+use Rattle.lister.proofs.Walk.{left, Next, next-place, no-place, at-end}
 use Rattle.lister.proofs.fill_starts.Statement.{statement}
 use Rattle.lister.proofs.fill_starts.Tie as tie
 
@@ -80,20 +80,14 @@ abbrev μ-loop : tie.MeasureT-loop
 μ-loop family capture starts₀ at₀ n₀ starts at n = length capture - at
 
 -- the frame that was found is the next
-found : (c : tie.After-start Inv-loop μ-loop) → Next (c .before .before .before .before .before .before .before .args .family) (c .before .before .before .before .before .before .before .args .capture .now) (c .before .before .before .before .loop .at) (c .start .given .0 .0) (c .start .given .0 .1 .0) (c .start .given .0 .1 .1 .0)
-found c = next _ _ _ _ _ _ (sym (c .before .before .first-good .ensures) ∙ c .start .given .1)
+found : (c : tie.Else1 Inv-loop μ-loop) → (f : Frame) × Next (c .before .before .before .before .before .before .before .args .family) (c .before .before .before .before .before .before .before .args .capture .now) (c .before .before .before .before .loop .at) (c .before .before .first-place .result .start) (c .before .before .first-place .result .size) f
+found c = next-place _ _ _ _ (c .before .before .first-place .ensures) (c .if1 .left)
 
 loop-holds : tie.Need-loop-holds Inv-loop μ-loop
 loop-holds c = record { within = omega arith; few = omega arith; some = omega arith; come = refl; front = refl; same = refl }
 
-first-good-requires : tie.Need-first-good-requires Inv-loop μ-loop
-first-good-requires c κs = search needs
-
-enum-known-start : tie.Need-enum-known-start Inv-loop μ-loop
-enum-known-start c = search needs
-
-enum-told : tie.Need-enum-told Inv-loop μ-loop
-enum-told c = search needs
+first-place-requires : tie.Need-first-place-requires Inv-loop μ-loop
+first-place-requires c κs = search needs
 
 same-length : tie.Need-same-length Inv-loop μ-loop
 same-length c = c .before .before .before .before .loop .inv .same
@@ -103,17 +97,17 @@ returns c =
     let a = c .before .before .before .before .before .before .before .args in
     let loop = c .before .before .before .before .loop in
     ends (a .family) (a .capture .now) (a .starts .now) (loop .starts) (loop .at) (loop .n) (loop .inv)
-    (no-next (a .family) (a .capture .now) (loop .at) (sym (c .before .before .first-good .ensures) ∙ c .enum-told .given .1))
+    (no-place (a .family) (a .capture .now) (loop .at) _ (c .before .before .first-place .ensures) (c .if1 .taken))
 
 cast-starts : tie.Need-cast-starts Inv-loop μ-loop
 cast-starts c =
-    let next-one = found (c .before) in
+    let next-one = found (c .before) .1 in
     let inv = c .before .before .before .before .before .loop .inv in
     omega (arith, next-one .place, next-one .some, next-one .there, inv .within, inv .few)
 
 mul-starts : tie.Need-mul-starts Inv-loop μ-loop
 mul-starts c =
-    let next-one = found (c .before) in
+    let next-one = found (c .before) .1 in
     let inv = c .before .before .before .before .before .loop .inv in
     omega (arith, next-one .place, next-one .some, next-one .there, inv .within, inv .few)
 
@@ -123,34 +117,34 @@ slice-write-starts c =
     let loop = c .before .before .before .before .before .loop in
     omega (
       arith,
-      one-more (a .family) (a .capture .now) (a .starts .now) (loop .starts) (loop .at) (loop .n) (loop .inv) _ _ _ (found (c .before)),
+      one-more (a .family) (a .capture .now) (a .starts .now) (loop .starts) (loop .at) (loop .n) (loop .inv) _ _ _ (found (c .before) .1),
       length-map (frames (a .family) (a .capture .now)) (λ (x : Found). x .start),
       loop .inv .same,
     )
 
 add-n : tie.Need-add-n Inv-loop μ-loop
 add-n c =
-    let next-one = found (c .before) in
+    let next-one = found (c .before) .1 in
     let inv = c .before .before .before .before .before .loop .inv in
     omega (arith, next-one .place, next-one .some, next-one .there, inv .within, inv .few)
 
 add-at : tie.Need-add-at Inv-loop μ-loop
 add-at c =
-    let next-one = found (c .before) in
-    let inv = c .before .before .before .before .before .loop .inv in
+    let next-one = found (c .before .before) .1 in
+    let inv = c .before .before .before .before .before .before .loop .inv in
     omega (arith, next-one .place, next-one .some, next-one .there, inv .within, inv .few)
 
 loop-less : tie.Need-loop-less Inv-loop μ-loop
 loop-less c =
-    let next-one = found (c .before) in
-    let inv = c .before .before .before .before .before .loop .inv in
+    let next-one = found (c .before .before) .1 in
+    let inv = c .before .before .before .before .before .before .loop .inv in
     omega (arith, next-one .place, next-one .some, next-one .there, inv .within, inv .few)
 
 loop-again : tie.Need-loop-again Inv-loop μ-loop
 loop-again c =
-    let a = c .before .before .before .before .before .before .before .before .args in
-    let loop = c .before .before .before .before .before .loop in
-    goes-on (a .family) (a .capture .now) (a .starts .now) (loop .starts) (loop .at) (loop .n) (loop .inv) _ _ _ (found (c .before)) (c .before .before .before .before .before .before .before .before .pre .1)
+    let a = c .before .before .before .before .before .before .before .before .before .args in
+    let loop = c .before .before .before .before .before .before .loop in
+    goes-on (a .family) (a .capture .now) (a .starts .now) (loop .starts) (loop .at) (loop .n) (loop .inv) _ _ _ (found (c .before .before) .1) (c .before .before .before .before .before .before .before .before .before .pre .1)
 
 same-length-2 : tie.Need-same-length-2 Inv-loop μ-loop
 same-length-2 c = c .before .loop .inv .same
@@ -169,9 +163,7 @@ fill-starts-spec =
     Inv-loop
     μ-loop
     loop-holds
-    first-good-requires
-    enum-known-start
-    enum-told
+    first-place-requires
     same-length
     returns
     cast-starts

@@ -1,21 +1,21 @@
 -- `seek::first_good` meets its contract. The loop's invariant: no start from `from` on and before `at` is good. The measure
 -- is what is left of the bytes.
 -- Assumes nothing.
-use Prim.Native.Nat.{ℕ, suc, _+_, _-_, _≤_, _<_}
-use mathlib.Core.Path.{_≡_, refl, sym, ap, subst, _∙_}
+use Prim.Native.Nat.{ℕ, _+_, _-_, _≤_}
+use mathlib.Core.Path.{_≡_, sym, ap, subst, _∙_}
 use mathlib.Core.List.{List, [], _∷_}
 use native.Mathlib.Omega.{arith}
-use borrow.Author.Count.{below-none, below-more}
 use borrow.Author.Needs.{needs}
 use denote.Enum.Declared.{tagOf}
 use types.Run.{OneOf, miss}
 use lib.ListN.{length, drop, length-drop}
-use lib.Seq.{take-all, drop-drop}
+use lib.Seq.{take-all}
 use Rattle.rules.specs.declared.Frame.{Frame}
-use Rattle.stream_rules.specs.Heads.{Head, good, head, atClose}
+use Rattle.stream_rules.specs.Heads.{good, head}
 use Rattle.stream_rules.specs.Rule.{Look, byLook, look}
 use Rattle.seek_laws.proofs.Families.{facts}
-use Rattle.seek_laws.proofs.Starts.{NoneGoodBefore, close-at-good, close-at-end}
+use Rattle.seek_laws.proofs.Starts.{NotGood}
+use Rattle.seek_laws.proofs.Walks.{Passed, nothing-passed, passes, first-good, none-left}
 use Rattle.heads.proofs.Seen.{the-type}
 use Rattle.heads.specs.Seen.{seen}
 use Rattle.heads.specs.declared.Seen as SeenType
@@ -35,33 +35,24 @@ other x keys n f e = miss (1 ∷ 2 ∷ []) 0 tt (subst (λ (y : SeenType.Seen). 
 abbrev answer : ℕ → Look → First
 answer from l = byLook l (λ k n f behind. At (from + k) n f) (λ k rest. Nothing)
 
-module _ (family : ℕ) (s : List ℕ) (from at : ℕ) (on : from ≤ at) (none : NoneGoodBefore (head family) (drop from s) (at - from)) where
-  -- the start at `at`, counted from `from`
-  place : from + (at - from) ≡ at
-  place = omega arith
-
-  same-start : drop (at - from) (drop from s) ≡ drop at s
-  same-start = drop-drop (at - from) from s ∙ ap (λ (k : ℕ). drop k s) place
-
+module _ (family : ℕ) (s : List ℕ) (from at : ℕ) (passed : Passed (head family) s from at) where
   stops : (n : ℕ) (f : Frame) → head family (drop at s) ≡ good n f → At at n f ≡ firstFrom family s from
   unfolding firstFrom
   stops n f here =
-      ap (λ (k : ℕ). At k n f) (sym place)
-      ∙ ap (answer from) (sym (close-at-good (facts family) (drop from s) (at - from) n f none (ap (head family) same-start ∙ here)))
+      ap (λ (k : ℕ). At k n f) (omega (arith, passed .on))
+      ∙ ap (answer from) (sym (first-good (head family) s from at passed _ (facts family) n f here))
 
   ends : length s ≤ at → Nothing ≡ firstFrom family s from
   unfolding firstFrom
-  ends e = ap (answer from) (sym (close-at-end (head family) (drop from s) (λ j h. none j (omega (arith, length-drop from s)))))
+  ends e = ap (answer from) (sym (none-left (head family) s from at passed (λ j on within. absurd (omega arith))))
 
-  goes-on : ((n : ℕ) (f : Frame) → head family (drop at s) ≡ good n f → ⊥) → NoneGoodBefore (head family) (drop from s) (at + 1 - from)
+  goes-on : NotGood (head family (drop at s)) → Passed (head family) s from (at + 1)
   goes-on not-here =
-      let one-more : at - from + 1 ≡ at + 1 - from = omega arith in
-      subst (NoneGoodBefore (head family) (drop from s)) one-more
-      (below-more (λ (j : ℕ). (n : ℕ) (f : Frame) → head family (drop j (drop from s)) ≡ good n f → ⊥) (at - from) none
-      (λ n f e. not-here n f (sym (ap (head family) same-start) ∙ e)))
+      passes (head family) s from at passed 1
+      (λ j p. let same : at ≡ at + j = omega arith in rw (← same) not-here)
 
 abbrev Inv-loop : tie.InvT-loop
-Inv-loop family s from at₀ at = (from ≤ at) × NoneGoodBefore (head family) (drop from s) (at - from)
+Inv-loop family s from at₀ at = Passed (head family) s from at
 
 abbrev μ-loop : tie.MeasureT-loop
 μ-loop family s from at₀ at = length s - at
@@ -74,7 +65,7 @@ here c =
     c .examine .ensures ∙ ap (seen _) (take-all (length s - at) (drop at s) (omega (arith, length-drop at s)))
 
 loop-holds : tie.Need-loop-holds Inv-loop μ-loop
-loop-holds c = (omega arith, λ j h. absurd (omega arith))
+loop-holds c = nothing-passed _ _ _
 
 sub-examine : tie.Need-sub-examine Inv-loop μ-loop
 sub-examine c = omega arith
@@ -95,7 +86,7 @@ returns : tie.Need-returns Inv-loop μ-loop
 returns c =
     let loop = c .before .before .before .before .before .before .loop in
     let a = c .before .before .before .before .before .before .before .before .args in
-    stops (a .family) (a .s .now) (a .from) (loop .at) (loop .inv .0) (loop .inv .1) _ _
+    stops (a .family) (a .s .now) (a .from) (loop .at) (loop .inv) _ _
     (seen-good (a .family) (drop (loop .at) (a .s .now)) _ _ (sym (here (c .before .before .before)) ∙ c .before .n .given .1))
 
 add-at : tie.Need-add-at Inv-loop μ-loop
@@ -107,17 +98,15 @@ loop-less c = omega arith
 loop-again : tie.Need-loop-again Inv-loop μ-loop
 loop-again c =
     let loop = c .before .before .before .before .loop in
-    let a = c .before .before .before .before .before .before .args in (
-      omega arith,
-      goes-on (a .family) (a .s .now) (a .from) (loop .at) (loop .inv .0) (loop .inv .1)
-          (λ n f e. other _ (c .match .keys2) n f (here (c .before) ∙ good-seen (a .family) (drop (loop .at) (a .s .now)) n f e)),
-    )
+    let a = c .before .before .before .before .before .before .args in
+    goes-on (a .family) (a .s .now) (a .from) (loop .at) (loop .inv)
+    (λ n f e. other _ (c .match .keys2) n f (here (c .before) ∙ good-seen (a .family) (drop (loop .at) (a .s .now)) n f e))
 
 returns-2 : tie.Need-returns-2 Inv-loop μ-loop
 returns-2 c =
     let loop = c .before .loop in
     let a = c .before .before .before .args in
-    ends (a .family) (a .s .now) (a .from) (loop .at) (loop .inv .0) (loop .inv .1) (c .loop-test .left)
+    ends (a .family) (a .s .now) (a .from) (loop .at) (loop .inv) (c .loop-test .left)
 
 pub first-good-spec : {M : Type 1} → statement M
 first-good-spec =

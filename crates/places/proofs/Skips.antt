@@ -1,0 +1,91 @@
+-- Which starts are passed over together. A count is no mark, so around the fourth byte of an SPE start it is settled which
+-- of the next starts can be good; and no sentence starts at a payload byte.
+-- Assumes nothing.
+use Prim.Native.Nat.{ℕ, zero, suc, _+_, _-_, _≤_, _<_}
+use Prim.Native.Char.{code}
+use mathlib.Core.Path.{_≡_, refl, sym, ap, _∙_}
+use mathlib.Core.Bool.{Bool, true, false, cond}
+use mathlib.Core.List.{List, [], _∷_}
+use native.Mathlib.Omega.{arith}
+use lib.Dec.{eqb}
+use lib.ListN.{length, drop, getD}
+use lib.Seq.{getD-drop}
+use Rattle.rules.specs.Sentences.{isPayloadByte}
+use Rattle.stream_rules.specs.Heads.{markOf, payloadRun, head}
+use Rattle.head_laws.proofs.Heads.{good-head}
+use Rattle.head_laws.proofs.PacketStarts.{needs-none, good-start}
+use Rattle.head_laws.proofs.SentenceStarts.{no-dollar}
+use Rattle.seek_laws.proofs.Starts.{NotGood}
+
+module _ (family : ℕ) (spe : family ≡ 2 → ⊥) (bs : List ℕ) where
+  -- a good start has three marks
+  pub not-marked : (k : ℕ) → k < 3 → (getD bs k 0 ≡ markOf family → ⊥) → NotGood (head family bs)
+  not-marked k low other n f e = other (good-start family spe bs n f (good-head family bs n f e .read) .0 k low)
+
+  -- and behind them a count, which is no mark
+  mark-not : (k : ℕ) → (0x55 ≡ k → ⊥) → (0xAA ≡ k → ⊥) → markOf family ≡ k → ⊥
+  mark-not k not-55 not-aa = by (eqb family 3)
+    where
+      by : (t : Bool) → cond t 0x55 0xAA ≡ k → ⊥
+      by true = not-55
+      by false = not-aa
+
+  pub no-mark-is-count : getD bs 3 0 ≡ markOf family → NotGood (head family bs)
+  no-mark-is-count is-mark n f e =
+      let start = good-start family spe bs n f (good-head family bs n f e .read) in
+      let none =
+      needs-none family (getD bs 3 0)
+      (λ p. mark-not 0x01 (λ q. omega (arith, q)) (λ q. omega (arith, q)) (sym is-mark ∙ p))
+      (λ one p. mark-not 0x43 (λ q. omega (arith, q)) (λ q. omega (arith, q)) (sym is-mark ∙ p)) in
+      omega (arith, start .1, start .2, none)
+
+-- Where the fourth byte is no mark, no good frame starts at it or at the two before it.
+pub behind-no-mark : (family : ℕ) (spe : family ≡ 2 → ⊥) (bs : List ℕ) → (getD bs 3 0 ≡ markOf family → ⊥)
+    → (j : ℕ) → 0 < j → j < 4 → NotGood (head family (drop j bs))
+behind-no-mark family spe bs other j some few =
+    not-marked family spe (drop j bs) (3 - j) (omega arith) (λ e. other (ap (λ (k : ℕ). getD bs k 0) (omega arith) ∙ sym (getD-drop j bs (3 - j) 0) ∙ e))
+
+-- each byte of a run is a payload byte
+run-byte : (bs : List ℕ) (j : ℕ) → j < length (payloadRun bs) → isPayloadByte (getD bs j 0) ≡ true
+unfolding payloadRun
+run-byte [] j h = absurd (omega arith)
+run-byte (b ∷ bs) zero h = by (isPayloadByte b) h
+  where
+    by : (t : Bool) → 0 < length (cond t (b ∷ payloadRun bs) []) → t ≡ true
+    by true p = refl
+    by false p = absurd (omega arith)
+run-byte (b ∷ bs) (suc j) h = run-byte bs j (by (isPayloadByte b) h)
+  where
+    by : (t : Bool) → suc j < length (cond t (b ∷ payloadRun bs) []) → j < length (payloadRun bs)
+    by true p = omega arith
+    by false p = absurd (omega arith)
+
+-- no sentence starts at another byte than `$`
+pub not-dollar : (bs : List ℕ) → (getD bs 0 0 ≡ code "$" → ⊥) → NotGood (head 2 bs)
+not-dollar bs other n f e =
+    let g = good-head 2 bs n f e in
+    let is-bad = no-dollar bs (omega (arith, g .some, g .there)) other .0 in
+    let z : _≡_ {A = ℕ} 0 1 = cc in
+    omega arith
+
+dollar-no-payload : isPayloadByte (code "$") ≡ false
+unfolding isPayloadByte
+dollar-no-payload = refl
+
+-- so none starts in the run behind one
+pub in-the-run : (bs : List ℕ) (j : ℕ) → 0 < j → j ≤ length (payloadRun (drop 1 bs)) → NotGood (head 2 (drop j bs))
+in-the-run bs j some within = not-dollar (drop j bs) (λ e. dollar (ap (λ (k : ℕ). getD bs k 0) place ∙ sym (getD-drop j bs 0 0) ∙ e))
+  where
+    place : j ≡ j + 0
+    place = omega arith
+
+    byte : isPayloadByte (getD bs j 0) ≡ true
+    byte =
+        ap (λ (k : ℕ). isPayloadByte (getD bs k 0)) (omega arith)
+        ∙ ap isPayloadByte (sym (getD-drop 1 bs (j - 1) 0))
+        ∙ run-byte (drop 1 bs) (j - 1) (omega arith)
+
+    dollar : getD bs j 0 ≡ code "$" → ⊥
+    dollar e =
+        let z : _≡_ {A = ℕ} 0 1 = cc (byte, ap isPayloadByte e, dollar-no-payload) in
+        omega arith

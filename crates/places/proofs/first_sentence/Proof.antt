@@ -1,0 +1,169 @@
+-- `places::first_sentence` meets its contract. The loop's invariant: no start from `from` on and before `at` is good. The
+-- measure is what is left of the bytes.
+-- Assumes nothing.
+use Prim.Native.Nat.{ℕ, _+_, _-_, min, _≤_, _<_}
+use Prim.Native.Char.{code}
+use mathlib.Core.Path.{_≡_, sym, ap, _∙_}
+use mathlib.Core.List.{List}
+use native.Mathlib.Decide.{ℕ-discrete}
+use native.Mathlib.Omega.{arith}
+use borrow.Author.Needs.{needs}
+use lib.ListN.{length, take, drop, getD, length-drop}
+use lib.Seq.{take-all, drop-drop, getD-drop}
+use Rattle.stream_rules.specs.Heads.{payloadRun, head}
+use Rattle.seek_laws.proofs.Starts.{NotGood}
+use Rattle.seek_laws.proofs.Walks.{Passed, nothing-passed, passes}
+use Rattle.places.specs.Places.{sizeAt}
+use Rattle.places.proofs.Sizes.{no-size}
+use Rattle.places.proofs.Skips.{not-dollar, in-the-run}
+use Rattle.places.proofs.Firsts.{stops, ends}
+use Rattle.places.proofs.first_sentence.Statement.{statement}
+use Rattle.places.proofs.first_sentence.Tie as tie
+
+abbrev Inv-loop : tie.InvT-loop
+Inv-loop s from at₀ at = Passed (head 2) s from at
+
+abbrev μ-loop : tie.MeasureT-loop
+μ-loop s from at₀ at = length s - at
+
+module _ (s : List ℕ) (from at : ℕ) (passed : Passed (head 2) s from at) where
+  -- another byte than `$`: not good here
+  over-byte : (getD s at 0 ≡ code "$" → ⊥) → Passed (head 2) s from (at + 1)
+  over-byte other = passes (head 2) s from at passed 1 here
+    where
+      here : (j : ℕ) → j < 1 → NotGood (head 2 (drop (at + j) s))
+      here j p =
+          not-dollar (drop (at + j) s) (λ e. other (ap (λ (k : ℕ). getD s k 0) (omega arith) ∙ sym (getD-drop (at + j) s 0 0) ∙ e))
+
+  -- a `$` with no frame, and the run behind it
+  over-run : (n : ℕ) → n ≤ length (payloadRun (drop 1 (drop at s))) → 0 ≡ sizeAt 2 (drop at s) → Passed (head 2) s from (at + (n + 1))
+  over-run n within none = passes (head 2) s from at passed (n + 1) here
+    where
+      here : (j : ℕ) → j < n + 1 → NotGood (head 2 (drop (at + j) s))
+      here j p =
+          elim (ℕ-discrete j 0) [
+            | yes first ↦ rw (← (let z : at ≡ at + j = omega (arith, first) in z)) (no-size 2 (drop at s) none)
+            | no later ↦ rw (← drop-drop j at s) (in-the-run (drop at s) j (omega arith) (omega arith))
+          ]
+
+-- the bytes from a place on, as a call was lent them
+from-there : (s : List ℕ) (k : ℕ) → take (length s - k) (drop k s) ≡ drop k s
+from-there s k = take-all (length s - k) (drop k s) (omega (arith, length-drop k s))
+
+-- the run behind `at`
+counted : (c : tie.After-payload-bytes Inv-loop μ-loop)
+    → c .payload-bytes .result ≡ min (length (payloadRun (drop 1 (drop (c .before .before .before .before .before .loop .at) (c .before .before .before .before .before .before .before .args .s .now))))) 129
+counted c =
+    let s = c .before .before .before .before .before .before .before .args .s .now in
+    let at = c .before .before .before .before .before .loop .at in
+    c .payload-bytes .ensures ∙ ap (λ (l : List ℕ). min (length (payloadRun l)) 129) (from-there s (at + 1) ∙ sym (drop-drop 1 at s))
+
+-- what stands at `at`
+module _ (c : tie.After-sentence-size Inv-loop μ-loop) where
+  abbrev bytes : List ℕ
+  bytes = c .before .before .before .before .before .before .before .before .before .args .s .now
+
+  abbrev at : ℕ
+  at = c .before .before .before .before .before .before .before .loop .at
+
+  size : c .sentence-size .result ≡ sizeAt 2 (drop at bytes)
+  size = c .sentence-size .ensures ∙ ap (sizeAt 2) (from-there bytes at)
+
+loop-holds : tie.Need-loop-holds Inv-loop μ-loop
+loop-holds c = nothing-passed _ _ _
+
+shared-slice-read-if1 : tie.Need-shared-slice-read-if1 Inv-loop μ-loop
+shared-slice-read-if1 c = omega arith
+
+add-at : tie.Need-add-at Inv-loop μ-loop
+add-at c = omega arith
+
+loop-less : tie.Need-loop-less Inv-loop μ-loop
+loop-less c = omega arith
+
+loop-again : tie.Need-loop-again Inv-loop μ-loop
+loop-again c =
+    let a = c .before .before .before .before .before .args in
+    let loop = c .before .before .before .loop in
+    over-byte (a .s .now) (a .from) (loop .at) (loop .inv) (c .if1 .taken)
+
+add-payload-bytes : tie.Need-add-payload-bytes Inv-loop μ-loop
+add-payload-bytes c = omega arith
+
+sub-payload-bytes : tie.Need-sub-payload-bytes Inv-loop μ-loop
+sub-payload-bytes c = omega arith
+
+part-payload-bytes-start : tie.Need-part-payload-bytes-start Inv-loop μ-loop
+part-payload-bytes-start c = omega arith
+
+part-payload-bytes-end : tie.Need-part-payload-bytes-end Inv-loop μ-loop
+part-payload-bytes-end c = omega arith
+
+payload-bytes-requires : tie.Need-payload-bytes-requires Inv-loop μ-loop
+payload-bytes-requires c κs = search needs
+
+sub-sentence-size : tie.Need-sub-sentence-size Inv-loop μ-loop
+sub-sentence-size c = omega arith
+
+part-sentence-size-start : tie.Need-part-sentence-size-start Inv-loop μ-loop
+part-sentence-size-start c = omega arith
+
+part-sentence-size-end : tie.Need-part-sentence-size-end Inv-loop μ-loop
+part-sentence-size-end c = omega arith
+
+sentence-size-requires : tie.Need-sentence-size-requires Inv-loop μ-loop
+sentence-size-requires c κs =
+    counted (c .before)
+    ∙ ap (λ (l : List ℕ). min (length (payloadRun (drop 1 l))) 129) (sym (from-there (c .before .before .before .before .before .before .before .before .args .s .now) (c .before .before .before .before .before .before .loop .at)))
+
+returns : tie.Need-returns Inv-loop μ-loop
+returns c =
+    let loop = c .before .before .before .before .before .before .before .before .loop in
+    stops 2 (bytes (c .before)) (c .before .before .before .before .before .before .before .before .before .before .args .from) (loop .at) (loop .inv) _ (size (c .before)) (c .if2 .taken)
+
+add-at-2 : tie.Need-add-at-2 Inv-loop μ-loop
+add-at-2 c = omega arith
+
+add-at-3 : tie.Need-add-at-3 Inv-loop μ-loop
+add-at-3 c = omega arith
+
+loop-less-2 : tie.Need-loop-less-2 Inv-loop μ-loop
+loop-less-2 c = omega arith
+
+loop-again-2 : tie.Need-loop-again-2 Inv-loop μ-loop
+loop-again-2 c =
+    let loop = c .before .before .before .before .before .before .before .before .loop in
+    over-run (bytes (c .before)) (c .before .before .before .before .before .before .before .before .before .before .args .from) (loop .at) (loop .inv) _ (omega (arith, counted (c .before .before .before))) (sym (c .if2 .left) ∙ size (c .before))
+
+returns-2 : tie.Need-returns-2 Inv-loop μ-loop
+returns-2 c =
+    let a = c .before .before .before .args in
+    let loop = c .before .loop in
+    ends 2 (a .s .now) (a .from) (loop .at) (loop .inv) (λ j on within. absurd (omega (arith, c .loop-test .left)))
+
+pub first-sentence-spec : {M : Type 1} → statement M
+first-sentence-spec =
+    tie.close
+    (tie.spec
+    Inv-loop
+    μ-loop
+    loop-holds
+    shared-slice-read-if1
+    add-at
+    loop-less
+    loop-again
+    add-payload-bytes
+    sub-payload-bytes
+    part-payload-bytes-start
+    part-payload-bytes-end
+    payload-bytes-requires
+    sub-sentence-size
+    part-sentence-size-start
+    part-sentence-size-end
+    sentence-size-requires
+    returns
+    add-at-2
+    add-at-3
+    loop-less-2
+    loop-again-2
+    returns-2)

@@ -1,0 +1,78 @@
+-- `places::packet_size` meets its contract: the count declares a length, and as many bytes are a good frame or none.
+-- Assumes nothing.
+use Prim.Native.Nat.{ℕ}
+use mathlib.Core.Path.{_≡_, sym, ap, _∙_}
+use mathlib.Core.List.{List}
+use native.Mathlib.Omega.{arith}
+use borrow.Author.Needs.{needs as kit}
+use borrow.Author.Tests.{ne-eqb}
+use lib.ListN.{length, take, getD}
+use Rattle.rules.specs.Answers.{readOne}
+use Rattle.frames.specs.Good.{isGood}
+use Rattle.stream_rules.specs.Heads.{needs, lengthAt}
+use Rattle.places.proofs.Sizes.{size-none, too-short, not-declared, size-good, size-refused}
+use Rattle.places.proofs.packet_size.Statement.{statement}
+use Rattle.places.proofs.packet_size.Tie as tie
+
+-- a packet declares what its count needs
+declared : (family : ℕ) (bs : List ℕ) (n : ℕ) → (family ≡ 2 → ⊥) → n ≡ needs family (getD bs 3 0) → lengthAt family bs ≡ n
+declared family bs n spe e = rw (ne-eqb family 2 spe) (sym e)
+
+-- whether so many bytes are a good frame, and what they declare
+module _ (c : tie.After-is-good) where
+  abbrev family : ℕ
+  family = c .before .before .before .before .before .before .before .args .family
+
+  abbrev bytes : List ℕ
+  bytes = c .before .before .before .before .before .before .before .args .s .now
+
+  abbrev size : ℕ
+  size = c .before .before .before .bytes-needed .result
+
+  tested : isGood (readOne family (take size bytes)) ≡ c .is-good .result
+  tested = sym (c .is-good .ensures ∙ ap (λ (l : List ℕ). isGood (readOne family l)) (c .before .text .ensures .content))
+
+  declares : lengthAt family bytes ≡ size
+  declares = declared family bytes size (c .before .before .before .before .before .before .before .pre) (c .before .before .before .bytes-needed .ensures)
+
+returns : tie.Need-returns
+returns c = let a = c .before .before .args in size-none (a .family) (a .s .now) (too-short (a .family) (a .s .now) (c .if1 .taken))
+
+shared-slice-read-bytes-needed : tie.Need-shared-slice-read-bytes-needed
+shared-slice-read-bytes-needed c = search kit
+
+bytes-needed-requires : tie.Need-bytes-needed-requires
+bytes-needed-requires c κs = search kit
+
+returns-2 : tie.Need-returns-2
+returns-2 c =
+    let start = c .before .before .before .before .before in
+    let a = start .args in
+    let n = c .before .bytes-needed in
+    size-none (a .family) (a .s .now)
+    (not-declared (a .family) (a .s .now) (n .result) (declared (a .family) (a .s .now) (n .result) (start .pre) (n .ensures)) (c .if2 .taken))
+
+text-requires : tie.Need-text-requires
+text-requires c κs = search kit
+
+is-good-requires : tie.Need-is-good-requires
+is-good-requires c κs = search kit
+
+returns-3 : tie.Need-returns-3
+returns-3 c = size-good (family (c .before)) (bytes (c .before)) (size (c .before)) (omega (arith, c .before .before .before .if2 .left)) (tested (c .before) ∙ c .if3 .taken)
+
+returns-4 : tie.Need-returns-4
+returns-4 c = size-refused (family (c .before)) (bytes (c .before)) (size (c .before)) (declares (c .before)) (tested (c .before) ∙ c .if3 .left)
+
+pub packet-size-spec : {M : Type 1} → statement M
+packet-size-spec =
+    tie.close
+    (tie.spec
+    returns
+    shared-slice-read-bytes-needed
+    bytes-needed-requires
+    returns-2
+    text-requires
+    is-good-requires
+    returns-3
+    returns-4)

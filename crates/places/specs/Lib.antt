@@ -1,0 +1,2 @@
+-- `Places` says where the first good frame stands.
+pub mod Places
