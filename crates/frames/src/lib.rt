@@ -1,8 +1,7 @@
 // The reader of one frame: a family number and lent bytes give the frame, or a refusal.
 use rules::Reading;
 ghost use mathlib.Core.Path.{_≡_};
-ghost use Rattle.rules.specs.Answers.{Reads, readOne};
-ghost use Rattle.frames.specs.Good.{isGood};
+ghost use Rattle.rules.specs.Answers.{Reads, isGood, readOne};
 
 // The whole of the bytes is one good frame of the family, or it is refused: 1 where there is no such
 // family, else 8.

@@ -8,11 +8,10 @@ use mathlib.Core.List.{List}
 use native.Mathlib.Omega.{arith}
 use lib.Dec.{eqb}
 use lib.ListN.{length, take, drop, getD}
-use Rattle.rules.specs.Answers.{readOne}
+use Rattle.rules.specs.Answers.{isGood, readOne}
 use Rattle.rules.specs.declared.Frame.{Frame}
 use Rattle.rules.specs.declared.Reading.{Reading}
 use Rattle.rules.specs.declared.Reading.the-variants.{Good, Refused}
-use Rattle.frames.specs.Good.{isGood}
 use Rattle.stream_rules.specs.Heads.{needs, payloadRun, lengthAt, Head, wait, bad, good, head}
 use Rattle.stream_rules.specs.Rule.{byHead}
 use Rattle.head_laws.proofs.Heads.{complete, GoodHead, good-head}

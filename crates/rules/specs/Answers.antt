@@ -87,6 +87,11 @@ abbrev pub said : Reading → Says
 said (Good f) = yes (kindOf f) (values f)
 said (Refused n) = no n
 
+-- whether an answer is a good frame
+abbrev pub isGood : Reading → Bool
+isGood (Good f) = true
+isGood (Refused n) = false
+
 abbrev pub saidToWrite : Written → Says
 saidToWrite (Length n) = yes lengthWritten (pos n ∷ [])
 saidToWrite (NotWritten n) = no n

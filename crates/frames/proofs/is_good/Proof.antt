@@ -2,7 +2,7 @@
 -- Assumes nothing.
 use mathlib.Core.Path.{sym, ap, _∙_}
 use borrow.Author.Needs.{needs}
-use Rattle.frames.specs.Good.{isGood}
+use Rattle.rules.specs.Answers.{isGood}
 use Rattle.frames.proofs.is_good.Statement.{statement}
 use Rattle.frames.proofs.is_good.Tie as tie
 

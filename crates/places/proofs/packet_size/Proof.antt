@@ -7,8 +7,7 @@ use native.Mathlib.Omega.{arith}
 use borrow.Author.Needs.{needs as kit}
 use borrow.Author.Tests.{ne-eqb}
 use lib.ListN.{length, take, getD}
-use Rattle.rules.specs.Answers.{readOne}
-use Rattle.frames.specs.Good.{isGood}
+use Rattle.rules.specs.Answers.{isGood, readOne}
 use Rattle.stream_rules.specs.Heads.{needs, lengthAt}
 use Rattle.places.proofs.Sizes.{size-none, too-short, not-declared, size-good, size-refused}
 use Rattle.places.proofs.packet_size.Statement.{statement}

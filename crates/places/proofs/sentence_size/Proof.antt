@@ -6,8 +6,7 @@ use mathlib.Core.List.{List}
 use native.Mathlib.Omega.{arith}
 use borrow.Author.Needs.{needs}
 use lib.ListN.{length, take, drop}
-use Rattle.rules.specs.Answers.{readOne}
-use Rattle.frames.specs.Good.{isGood}
+use Rattle.rules.specs.Answers.{isGood, readOne}
 use Rattle.stream_rules.specs.Heads.{payloadRun, lengthAt, head}
 use Rattle.head_laws.proofs.Heads.{good-head}
 use Rattle.seek_laws.proofs.Starts.{NotGood}
