@@ -1,0 +1,156 @@
+/* What a C program needs of libamp.a: reading and writing the serial frames of SPE amplifiers and of
+ * the Alpha 9500. Every function is proved; crates/amp has the statements, crates/amp/specs/Boundary.antt
+ * what each gives back and leaves.
+ *
+ * Families: 1 SPE amplifier to host, 2 Alpha 9500, 3 host to SPE amplifier.
+ *
+ * A function that returns uint32_t returns 0, or one of the numbers below; it has then changed nothing
+ * that was lent to it. A pointer and a length that follow each other are one lent slice: the pointer
+ * has to be aligned and not null, also where the length is 0, and lent memory must not overlap. Apart
+ * from that every number, every byte and every state of a reader is a legal argument. */
+#ifndef AMP_H
+#define AMP_H
+
+#include <stddef.h>
+#include <stdint.h>
+
+#ifdef __cplusplus
+extern "C" {
+#endif
+
+/* The numbers for no. */
+enum {
+    AMP_NO_FAMILY = 1,      /* the family is not 1, 2 or 3 */
+    AMP_NO_CODE = 2,        /* a command or an acknowledgement cannot carry this code */
+    AMP_NO_RECORD = 3,      /* a value does not fit its field, or there is no such kind */
+    AMP_NO_ROOM = 4,        /* the lent output, list or row is too short */
+    AMP_CLOSED = 5,         /* bytes were offered to a closed reader */
+    AMP_HOLDS_TOO_MUCH = 6, /* the reader's state claims more held bytes than its family can hold */
+    AMP_TOO_LONG = 7,       /* the capture has more than 65,536 bytes */
+    AMP_NOT_GOOD = 8        /* the bytes are not one good frame */
+};
+
+/* A row of numbers: what was read, or what a call on a stream answered. The values of a frame stand
+ * from AMP_VALUES on; what is behind them is unchanged. */
+enum {
+    AMP_KIND,    /* one of the kinds below */
+    AMP_CODE,    /* the code of an acknowledgement or a command, the number of a sentence, else 0 */
+    AMP_TAKEN,   /* how many of the offered bytes the call took */
+    AMP_START,   /* where the frame starts in the stream, modulo 2^32 */
+    AMP_SKIPPED, /* how many bytes were skipped before it since the last frame, modulo 2^32 */
+    AMP_LENGTH,  /* how many bytes the frame has */
+    AMP_VALUES,
+    AMP_ROW = 26 /* the places that every row has to have */
+};
+
+enum {
+    AMP_ACK = 1,
+    AMP_STATUS = 2,
+    AMP_COMMAND = 3,
+    AMP_SENTENCE = 4,
+    AMP_MORE = 5, /* more bytes are wanted: the call took all */
+    AMP_DONE = 6  /* the reader is closed and holds nothing more */
+};
+
+/* The values of a status report, from AMP_VALUES on. Letters are their ASCII bytes. */
+enum {
+    AMP_STATUS_ID,        /* 20 or 13 */
+    AMP_STATUS_STATE,     /* 'S' standby, 'O' operate */
+    AMP_STATUS_DIRECTION, /* 'R' receive, 'T' transmit */
+    AMP_STATUS_BANK,      /* 'x', 'A' or 'B' */
+    AMP_STATUS_INPUT,
+    AMP_STATUS_BAND,
+    AMP_STATUS_TRANSMIT,  /* the transmit antenna */
+    AMP_STATUS_TUNER,     /* 't', 'b' or 'a' */
+    AMP_STATUS_RECEIVE,   /* the receive antenna */
+    AMP_STATUS_LEVEL,     /* 'L', 'M' or 'H' */
+    AMP_STATUS_WATTS,
+    AMP_STATUS_SWR_ATU,   /* in hundredths */
+    AMP_STATUS_SWR_ANT,   /* in hundredths */
+    AMP_STATUS_VOLTS,     /* in tenths */
+    AMP_STATUS_AMPERES,   /* in tenths */
+    AMP_STATUS_UPPER,     /* three temperatures */
+    AMP_STATUS_LOWER,
+    AMP_STATUS_COMBINER,
+    AMP_STATUS_WARNING,   /* a letter, 'N' for none */
+    AMP_STATUS_ALARM,     /* a letter, 'N' for none */
+    AMP_STATUS_VALUES
+};
+
+/* Those of sentences 02, 03 and 05. */
+enum {
+    AMP_02_PFWD, AMP_02_SWR, AMP_02_PIN, AMP_02_VP, AMP_02_IP, AMP_02_GAIN, AMP_02_VG, AMP_02_IG,
+    AMP_02_BAND, AMP_02_STATE, AMP_02_FAULT, AMP_02_KEY, AMP_02_PEP, AMP_02_VALUES
+};
+
+enum {
+    AMP_03_V5, AMP_03_V12, AMP_03_V24, AMP_03_M12, AMP_03_V40, AMP_03_ACLINE, AMP_03_MBSTATUS,
+    AMP_03_MBTAP, AMP_03_TEMP /* in tenths, with its sign */, AMP_03_VALUES
+};
+
+enum {
+    AMP_05_BAND, AMP_05_SEGMENT, AMP_05_MEMORY, AMP_05_ANTENNA, AMP_05_METER, AMP_05_CONTROL,
+    AMP_05_OPTIONS, AMP_05_STATE, AMP_05_WTIME, AMP_05_TCMD, AMP_05_LCMD, AMP_05_VALUES
+};
+
+/* A stream reader's state, 144 bytes. Any bytes in it are a legal state. */
+typedef struct amp_reader {
+    uint8_t family;
+    uint8_t closed;    /* 0 is open */
+    uint8_t count;     /* how many of the held places are used */
+    uint8_t held[133];
+    uint32_t at;       /* the place of the first held byte in the stream, modulo 2^32 */
+    uint32_t skipped;  /* the bytes skipped since the last frame, modulo 2^32 */
+} amp_reader;
+
+/* Makes the lent reader a fresh one. Refusal 1. */
+uint32_t amp_fresh(amp_reader *reader, uint32_t family);
+
+/* Offers bytes to the reader, and lays the row of its answer: a frame, AMP_MORE or AMP_DONE. The call
+ * stops at a frame and tells in AMP_TAKEN how many bytes it took; offer the others again. Refusal 4,
+ * then 1, then 6, then 5. */
+uint32_t amp_feed(amp_reader *reader, const uint8_t *offered, size_t offered_len,
+                  int64_t *row, size_t row_len);
+
+/* Closes the reader: calls that offer nothing then hand out what it still holds. Refusal 1, then 6. */
+uint32_t amp_close(amp_reader *reader);
+
+/* Reads one frame, the whole of the bytes, and lays its row; the numbers between its code and its
+ * values are 0. Refusal 4, then 1, then 8. */
+uint32_t amp_read(uint32_t family, const uint8_t *bytes, size_t bytes_len,
+                  int64_t *row, size_t row_len);
+
+/* Lists the starts of all frames in a capture, and how many there are. Refusal 1, then 7, then 4. */
+uint32_t amp_list(uint32_t family, const uint8_t *capture, size_t capture_len,
+                  uint32_t *starts, size_t starts_len, size_t *count);
+
+/* The size of the next frame from a place on, and its start; both are 0 where there is none, the place
+ * is beyond the end, or amp_list would refuse the family or the length. With reports other than 0 only
+ * a status report is one. */
+size_t amp_next(uint32_t family, const uint8_t *capture, size_t capture_len,
+                size_t place, uint32_t reports, size_t *start);
+
+/* Writes the frame of a kind, a code and values to the front of the output, and its length: kind, code
+ * and values as a row has them. Values behind those of the kind are not looked at. Refusal 2 for the
+ * code of an acknowledgement or a command, 3 for anything else that is no frame with a writer, then 4. */
+uint32_t amp_write(uint32_t kind, uint32_t code, const int64_t *values, size_t values_len,
+                   uint8_t *out, size_t out_len, size_t *length);
+
+/* Writes the bytes that enable the Alpha. Refusal 4. */
+uint32_t amp_write_enable(uint8_t *out, size_t out_len, size_t *length);
+
+/* How stamp a stands to stamp b. */
+enum {
+    AMP_EARLIER = 1,
+    AMP_LATER = 2,
+    AMP_EQUAL = 3,
+    AMP_CANNOT_SAY = 4
+};
+
+uint32_t amp_stamp_order(uint32_t a, uint32_t b);
+
+#ifdef __cplusplus
+}
+#endif
+
+#endif
