@@ -1,0 +1,268 @@
+// A frame, and what a call answers, as a row of numbers laid at the front of lent memory. The values
+// of a frame stand behind the row's first six numbers.
+use rules::Frame;
+use rules::Reading;
+use rules::Sentence02;
+use rules::Sentence03;
+use rules::Sentence05;
+use rules::Status;
+use stream_rules::Answer;
+use stream_rules::Ready;
+ghost use mathlib.Core.Path.{_≡_};
+ghost use mathlib.Core.List.{[], _∷_, _++_, map};
+ghost use lib.IntN.{pos};
+ghost use lib.ListN.{length};
+ghost use Prim.Native.Nat.{_+_, _≤_};
+ghost use Rattle.rules.specs.Answers.{said, statusNumbers, numbers05, values};
+ghost use Rattle.rules.specs.Sentences.{numbers02, numbers03};
+ghost use Rattle.stream_rules.specs.Streams.{saidToFeed};
+ghost use Rattle.rows.specs.Rows.{frameKind, frameCode, whole, head, rowWithout, rowFed, rowRead, hasRoom, front, laidAt, Lays};
+
+// Whether the longest row has room.
+pub fn has_room(numbers: &[i64]) -> bool
+    ensures { λ r. ⌜ r ≡ hasRoom (now (numbers .entry)) ⌝ }
+{
+    26 <= numbers.len()
+}
+
+// The numbers from a place on.
+fn put_numbers(numbers: &mut [i64], at: usize, what: &[u32])
+    requires { ⌜ at + length (now what) ≤ length (now numbers) ⌝ }
+    ensures { λ _. ⌜ now (numbers .exit) ≡ laidAt at (map pos (now (what .entry))) (now (numbers .entry)) ⌝ }
+{
+    let mut i = 0;
+    while i < what.len() {
+        numbers[at + i] = what[i] as i64;
+        i += 1;
+    }
+}
+
+// A count, modulo 2^63.
+fn count(n: usize) -> i64
+    ensures { λ r. ⌜ r ≡ whole n ⌝ }
+{
+    (n % 0x8000_0000_0000_0000) as i64
+}
+
+// The first number of a frame's row.
+fn kind(frame: Frame) -> u32
+    ensures { λ r. ⌜ r ≡ frameKind frame ⌝ }
+{
+    match frame {
+        Frame::Ack(_) => 1,
+        Frame::Status(_) => 2,
+        Frame::Command(_) => 3,
+        Frame::Apa02(_) => 4,
+        Frame::Apa03(_) => 4,
+        Frame::Apa05(_) => 4,
+        Frame::Other(_) => 4,
+    }
+}
+
+// The second number of a frame's row.
+fn code(frame: Frame) -> u32
+    ensures { λ r. ⌜ r ≡ frameCode frame ⌝ }
+{
+    match frame {
+        Frame::Ack(code) => code as u32,
+        Frame::Status(_) => 0,
+        Frame::Command(code) => code as u32,
+        Frame::Apa02(_) => 2,
+        Frame::Apa03(_) => 3,
+        Frame::Apa05(_) => 5,
+        Frame::Other(n) => n as u32,
+    }
+}
+
+// The values of a status report.
+fn put_status(numbers: &mut [i64], s: Status)
+    requires { ⌜ 26 ≤ length (now numbers) ⌝ }
+    ensures { λ _. ⌜ now (numbers .exit) ≡ laidAt 6 (map pos (statusNumbers s)) (now (numbers .entry)) ⌝ }
+{
+    let what = [
+        s.id as u32,
+        s.state as u32,
+        s.direction as u32,
+        s.bank as u32,
+        s.input as u32,
+        s.band as u32,
+        s.transmit as u32,
+        s.tuner as u32,
+        s.receive as u32,
+        s.level as u32,
+        s.watts,
+        s.swratu,
+        s.swrant,
+        s.volts,
+        s.amperes,
+        s.upper,
+        s.lower,
+        s.combiner,
+        s.warning as u32,
+        s.alarm as u32,
+    ];
+    put_numbers(numbers, 6, &what);
+}
+
+// The values of sentence 02.
+fn put_02(numbers: &mut [i64], r: Sentence02)
+    requires { ⌜ 26 ≤ length (now numbers) ⌝ }
+    ensures { λ _. ⌜ now (numbers .exit) ≡ laidAt 6 (map pos (numbers02 r)) (now (numbers .entry)) ⌝ }
+{
+    let what = [
+        r.pfwd,
+        r.swr,
+        r.pin,
+        r.vp,
+        r.ip,
+        r.gain,
+        r.vg,
+        r.ig,
+        r.band,
+        r.state,
+        r.fault,
+        r.key,
+        r.pep,
+    ];
+    put_numbers(numbers, 6, &what);
+}
+
+// The values of sentence 03; the last of them has a sign.
+fn put_03(numbers: &mut [i64], r: Sentence03)
+    requires { ⌜ 26 ≤ length (now numbers) ⌝ }
+    ensures { λ _. ⌜ now (numbers .exit) ≡ laidAt 6 (map pos (numbers03 r) ++ r .temp ∷ []) (now (numbers .entry)) ⌝ }
+{
+    let what = [
+        r.v5,
+        r.v12,
+        r.v24,
+        r.m12,
+        r.v40,
+        r.acline,
+        r.mbstatus,
+        r.mbtap,
+    ];
+    put_numbers(numbers, 6, &what);
+    numbers[14] = r.temp as i64;
+}
+
+// The values of sentence 05.
+fn put_05(numbers: &mut [i64], r: Sentence05)
+    requires { ⌜ 26 ≤ length (now numbers) ⌝ }
+    ensures { λ _. ⌜ now (numbers .exit) ≡ laidAt 6 (map pos (numbers05 r)) (now (numbers .entry)) ⌝ }
+{
+    let what = [
+        r.band as u32,
+        r.segment as u32,
+        r.memory as u32,
+        r.antenna as u32,
+        r.meter as u32,
+        r.control as u32,
+        r.options as u32,
+        r.state as u32,
+        r.wtime as u32,
+        r.tcmd as u32,
+        r.lcmd as u32,
+    ];
+    put_numbers(numbers, 6, &what);
+}
+
+// The frame's values, behind the six numbers in front of them.
+fn put_values(numbers: &mut [i64], frame: Frame)
+    requires { ⌜ 26 ≤ length (now numbers) ⌝ }
+    ensures { λ _. ⌜ now (numbers .exit) ≡ laidAt 6 (values frame) (now (numbers .entry)) ⌝ }
+{
+    match frame {
+        Frame::Status(s) => put_status(numbers, s),
+        Frame::Apa02(r) => put_02(numbers, r),
+        Frame::Apa03(r) => put_03(numbers, r),
+        Frame::Apa05(r) => put_05(numbers, r),
+        Frame::Ack(_) => {}
+        Frame::Command(_) => {}
+        Frame::Other(_) => {}
+    }
+}
+
+// The first six numbers of a row.
+fn put_head(
+    numbers: &mut [i64],
+    kind: u32,
+    code: u32,
+    taken: usize,
+    start: u32,
+    skipped: u32,
+    size: usize,
+)
+    requires { ⌜ 26 ≤ length (now numbers) ⌝ }
+    ensures { λ _. ⌜ now (numbers .exit) ≡ laidAt 0 (head kind code taken start skipped size) (now (numbers .entry)) ⌝ }
+{
+    let what = [kind, code, 0, start, skipped, 0];
+    put_numbers(numbers, 0, &what);
+    numbers[2] = count(taken);
+    numbers[5] = count(size);
+}
+
+// The row of a frame that is handed out.
+fn put_ready(numbers: &mut [i64], ready: Ready)
+    requires { ⌜ 26 ≤ length (now numbers) ⌝ }
+    ensures { λ _. ⌜ now (numbers .exit) ≡ front (rowFed (Answer.Ready ready)) (now (numbers .entry)) ⌝ }
+{
+    let frame = ready.frame;
+    put_head(
+        numbers,
+        kind(frame),
+        code(frame),
+        ready.taken,
+        ready.start,
+        ready.skipped,
+        ready.length,
+    );
+    put_values(numbers, frame);
+}
+
+// The row without a frame.
+fn put_taken(numbers: &mut [i64], kind: u32, taken: usize)
+    requires { ⌜ 26 ≤ length (now numbers) ⌝ }
+    ensures { λ _. ⌜ now (numbers .exit) ≡ front (rowWithout kind taken) (now (numbers .entry)) ⌝ }
+{
+    put_head(numbers, kind, 0, taken, 0, 0, 0);
+}
+
+// What a call on a stream answered.
+pub fn lay_answer(answer: Answer, numbers: &mut [i64]) -> u32
+    ensures { λ r. ⌜ Lays (saidToFeed answer) (rowFed answer) (now (numbers .entry)) r (now (numbers .exit)) ⌝ }
+{
+    if !has_room(numbers) {
+        return 4;
+    }
+    match answer {
+        Answer::Ready(ready) => put_ready(numbers, ready),
+        Answer::More(taken) => put_taken(numbers, 5, taken),
+        Answer::Done(taken) => put_taken(numbers, 6, taken),
+        Answer::Refused(n) => return n as u32,
+    }
+    0
+}
+
+// What a reader of one frame answered.
+pub fn lay_reading(reading: Reading, numbers: &mut [i64]) -> u32
+    ensures { λ r. ⌜ Lays (said reading) (rowRead reading) (now (numbers .entry)) r (now (numbers .exit)) ⌝ }
+{
+    if !has_room(numbers) {
+        return 4;
+    }
+    match reading {
+        Reading::Good(frame) => {
+            let ready = Ready {
+                taken: 0,
+                start: 0,
+                skipped: 0,
+                length: 0,
+                frame,
+            };
+            put_ready(numbers, ready);
+            0
+        }
+        Reading::Refused(n) => n as u32,
+    }
+}
