@@ -1,5 +1,5 @@
-// The C boundary: the reader of one frame, the streams, the lister, the capture reader's search and
-// the order of stamps, as functions that a C program calls. Each gives one number back, of most of
+// The C boundary: the reader of one frame, the streams, the lister, the capture reader's search, the
+// writers and the order of stamps, as functions that a C program calls. Each gives one number back, of most of
 // them that of a refusal or 0, and leaves the rest in memory that is lent to it. Those on a lent
 // reader are thin over calls by value.
 use stream_rules::Listed;
@@ -7,11 +7,14 @@ use stream_rules::Order;
 use stream_rules::Outcome;
 use stream_rules::Reader;
 ghost use mathlib.Core.Path.{_≡_};
-ghost use mathlib.Core.Bool.{cond};
+ghost use mathlib.Core.Bool.{true, cond};
 ghost use lib.Dec.{leb};
 ghost use Rattle.stream_rules.specs.Streams.{saidToTurn};
 ghost use Rattle.stream_rules.specs.Lister.{order};
+ghost use Rattle.rules.specs.Answers.{noRoom};
+ghost use Rattle.rules.specs.Sentences.{enableBytes};
 ghost use Rattle.rows.specs.Rows.{refusalOf};
+ghost use Rattle.given.specs.Given.{WritesNumbers, WritesGiven};
 ghost use Rattle.amp.specs.Boundary.{Freshens, FeedsRow, Closes, ReadsRow, ListsStarts, Nexts, orderNumber};
 
 // A reader after a call, and the number that the call gives.
@@ -175,4 +178,26 @@ pub extern "C" fn amp_stamp_order(a: u32, b: u32) -> u32
         Order::Equal => 3,
         Order::CannotSay => 4,
     }
+}
+
+// Writes the frame of a kind, a code and values, and tells its length.
+#[no_mangle]
+pub extern "C" fn amp_write(
+    kind: u32,
+    code: u32,
+    values: &[i64],
+    out: &mut [u8],
+    length: &mut usize,
+) -> u32
+    ensures { λ r. ⌜ WritesGiven kind code (now (values .entry)) (now (out .entry)) (now (length .entry)) r (now (out .exit)) (now (length .exit)) ⌝ }
+{
+    given::write_given(kind, code, values, out, length)
+}
+
+// Writes the bytes that enable the Alpha, and tells their length.
+#[no_mangle]
+pub extern "C" fn amp_write_enable(out: &mut [u8], length: &mut usize) -> u32
+    ensures { λ r. ⌜ WritesNumbers true noRoom enableBytes (now (out .entry)) (now (length .entry)) r (now (out .exit)) (now (length .exit)) ⌝ }
+{
+    given::write_enable_given(out, length)
 }

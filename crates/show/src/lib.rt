@@ -85,23 +85,10 @@ fn values(line: &mut [u8], at: usize, frame: Frame) -> usize {
     }
 }
 
-// What the writer makes of the record or code. Of another sentence there is neither.
-fn write(frame: Frame, out: &mut [u8]) -> Written {
-    match frame {
-        Frame::Ack(code) => spe_writer::write_ack(code, out),
-        Frame::Status(s) => spe_writer::write_status(s, out),
-        Frame::Command(code) => spe_writer::write_command(code, out),
-        Frame::Apa02(r) => alpha_writer::write_02(r, out),
-        Frame::Apa03(r) => alpha_writer::write_03(r, out),
-        Frame::Apa05(r) => alpha_writer::write_05(r, out),
-        Frame::Other(_) => Written::Refused(3),
-    }
-}
-
 // The written bytes, or `-` where nothing is written.
 fn written(line: &mut [u8], at: usize, frame: Frame) -> usize {
     let mut out = [0u8; 75];
-    let answer = write(frame, &mut out);
+    let answer = given::write_frame(frame, &mut out);
     let Written::Length(n) = answer else {
         return text(line, at, b"-");
     };

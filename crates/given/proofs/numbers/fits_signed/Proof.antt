@@ -1,0 +1,13 @@
+-- `given::numbers::fits_signed` meets its contract: the signed reading that the code compares is the value.
+-- Assumes nothing.
+use mir.Syntax.{w64}
+use mir.ValLaws.{toZ-ofZ}
+use Rattle.given.proofs.Values.{between-signs}
+use Rattle.given.proofs.numbers.fits_signed.Statement.{statement}
+use Rattle.given.proofs.numbers.fits_signed.Tie as tie
+
+returns : tie.Need-returns
+returns c = rw (toZ-ofZ w64 (c .args .v) (c .fits .v)) (between-signs (c .args .v))
+
+pub fits-signed-spec : {M : Type 1} → statement M
+fits-signed-spec = tie.close (tie.spec returns)

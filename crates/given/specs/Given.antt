@@ -1,0 +1,171 @@
+-- A frame as a caller gives it who has plain numbers only: a kind, a code, and a row of values. What frame that is, and
+-- what a writer of it answers and leaves, as plain numbers too.
+use Prim.Native.Nat.{ℕ}
+use mathlib.Core.Path.{_≡_}
+use mathlib.Core.Bool.{Bool, false, _&&_, cond}
+use mathlib.Core.List.{List}
+use lib.Dec.{eqb, leb}
+use lib.IntN.{ℤ, pos, negsuc, natAbs}
+use lib.ListN.{length, take, drop, getD}
+use Rattle.rules.specs.Bytes.{every}
+use Rattle.rules.specs.Answers.{saidToWrite, written, leaves, allowed, notAllowed, bytesOf}
+use Rattle.rules.specs.declared.Status as StatusType
+use Rattle.rules.specs.declared.Sentence02.{Sentence02}
+use Rattle.rules.specs.declared.Sentence03.{Sentence03}
+use Rattle.rules.specs.declared.Sentence05.{Sentence05}
+use Rattle.rules.specs.declared.Frame.{Frame}
+use Rattle.rules.specs.declared.Frame.the-variants.{Ack, Status, Command, Apa02, Apa03, Apa05, Other}
+use Rattle.rules.specs.declared.Written.{Written}
+use Rattle.rules.specs.declared.Written.the-variants.{Length, Refused}
+use Rattle.rows.specs.Rows.{refusalOf}
+
+-- a value from 0 to the limit
+abbrev pub upTo : ℕ → ℤ → Bool
+upTo limit (pos n) = leb n limit
+upTo limit (negsuc n) = false
+
+-- Which values a field can hold: a byte, 32 bits, and 32 bits with a sign, where `negsuc n` is one below -n.
+abbrev pub aByte : ℤ → Bool
+aByte v = upTo 255 v
+
+abbrev pub aWord : ℤ → Bool
+aWord v = upTo 0xFFFFFFFF v
+
+abbrev pub aTemperature : ℤ → Bool
+aTemperature (pos n) = leb n 0x7FFFFFFF
+aTemperature (negsuc n) = leb n 0x7FFFFFFF
+
+-- the number in such a field, and 0 for a value that it cannot hold
+abbrev pub numberUpTo : ℕ → ℤ → ℕ
+numberUpTo limit v = cond (upTo limit v) (natAbs v) 0
+
+abbrev pub byteOf : ℤ → ℕ
+byteOf v = numberUpTo 255 v
+
+abbrev pub wordOf : ℤ → ℕ
+wordOf v = numberUpTo 0xFFFFFFFF v
+
+abbrev pub temperatureOf : ℤ → ℤ
+temperatureOf v = cond (aTemperature v) v (pos 0)
+
+-- the value at a place, and 0 where there is none
+abbrev pub valueAt : List ℤ → ℕ → ℤ
+valueAt vs i = getD vs i (pos 0)
+
+-- Whether a row is long enough and its values fit the fields of a record. What stands behind those is not looked at.
+unfoldable pub isStatusRow : List ℤ → Bool
+isStatusRow vs = leb 20 (length vs) && every aByte (take 10 vs) && every aWord (take 8 (drop 10 vs)) && every aByte (take 2 (drop 18 vs))
+
+unfoldable pub isRow02 : List ℤ → Bool
+isRow02 vs = leb 13 (length vs) && every aWord (take 13 vs)
+
+unfoldable pub isRow03 : List ℤ → Bool
+isRow03 vs = leb 9 (length vs) && every aWord (take 8 vs) && aTemperature (valueAt vs 8)
+
+unfoldable pub isRow05 : List ℤ → Bool
+isRow05 vs = leb 11 (length vs) && every aByte (take 11 vs)
+
+-- The records, with their fields in the order in which a reader gives their values.
+unfoldable pub statusFrom : List ℤ → StatusType.Status
+statusFrom vs = record {
+  id = byteOf (valueAt vs 0);
+  state = byteOf (valueAt vs 1);
+  direction = byteOf (valueAt vs 2);
+  bank = byteOf (valueAt vs 3);
+  input = byteOf (valueAt vs 4);
+  band = byteOf (valueAt vs 5);
+  transmit = byteOf (valueAt vs 6);
+  tuner = byteOf (valueAt vs 7);
+  receive = byteOf (valueAt vs 8);
+  level = byteOf (valueAt vs 9);
+  watts = wordOf (valueAt vs 10);
+  swratu = wordOf (valueAt vs 11);
+  swrant = wordOf (valueAt vs 12);
+  volts = wordOf (valueAt vs 13);
+  amperes = wordOf (valueAt vs 14);
+  upper = wordOf (valueAt vs 15);
+  lower = wordOf (valueAt vs 16);
+  combiner = wordOf (valueAt vs 17);
+  warning = byteOf (valueAt vs 18);
+  alarm = byteOf (valueAt vs 19);
+}
+
+unfoldable pub from02 : List ℤ → Sentence02
+from02 vs = record {
+  pfwd = wordOf (valueAt vs 0);
+  swr = wordOf (valueAt vs 1);
+  pin = wordOf (valueAt vs 2);
+  vp = wordOf (valueAt vs 3);
+  ip = wordOf (valueAt vs 4);
+  gain = wordOf (valueAt vs 5);
+  vg = wordOf (valueAt vs 6);
+  ig = wordOf (valueAt vs 7);
+  band = wordOf (valueAt vs 8);
+  state = wordOf (valueAt vs 9);
+  fault = wordOf (valueAt vs 10);
+  key = wordOf (valueAt vs 11);
+  pep = wordOf (valueAt vs 12);
+}
+
+unfoldable pub from03 : List ℤ → Sentence03
+from03 vs = record {
+  v5 = wordOf (valueAt vs 0);
+  v12 = wordOf (valueAt vs 1);
+  v24 = wordOf (valueAt vs 2);
+  m12 = wordOf (valueAt vs 3);
+  v40 = wordOf (valueAt vs 4);
+  acline = wordOf (valueAt vs 5);
+  mbstatus = wordOf (valueAt vs 6);
+  mbtap = wordOf (valueAt vs 7);
+  temp = temperatureOf (valueAt vs 8);
+}
+
+unfoldable pub from05 : List ℤ → Sentence05
+from05 vs = record {
+  band = byteOf (valueAt vs 0);
+  segment = byteOf (valueAt vs 1);
+  memory = byteOf (valueAt vs 2);
+  antenna = byteOf (valueAt vs 3);
+  meter = byteOf (valueAt vs 4);
+  control = byteOf (valueAt vs 5);
+  options = byteOf (valueAt vs 6);
+  state = byteOf (valueAt vs 7);
+  wtime = byteOf (valueAt vs 8);
+  tcmd = byteOf (valueAt vs 9);
+  lcmd = byteOf (valueAt vs 10);
+}
+
+-- The frame that is given. One that no record can hold has no writer, like a sentence that has no record, and is refused
+-- as that is.
+abbrev pub noFrame : Frame
+noFrame = Other 0
+
+unfoldable pub sentenceFrom : ℕ → List ℤ → Frame
+sentenceFrom number vs =
+    cond (eqb number 2) (cond (isRow02 vs) (Apa02 (from02 vs)) noFrame)
+    (cond (eqb number 3) (cond (isRow03 vs) (Apa03 (from03 vs)) noFrame)
+    (cond (eqb number 5) (cond (isRow05 vs) (Apa05 (from05 vs)) noFrame)
+    noFrame))
+
+unfoldable pub frameOf : ℕ → ℕ → List ℤ → Frame
+frameOf kind code vs =
+    cond (eqb kind 1) (Ack code)
+    (cond (eqb kind 2) (cond (isStatusRow vs) (Status (statusFrom vs)) noFrame)
+    (cond (eqb kind 3) (Command code)
+    (cond (eqb kind 4) (sentenceFrom code vs)
+    noFrame)))
+
+-- The length goes where the caller lent a place for it; on a refusal that place keeps what it held.
+abbrev pub lengthOr : ℕ → Written → ℕ
+lengthOr before (Length n) = n
+lengthOr before (Refused n) = before
+
+pub record WritesNumbers (may : Bool) (n : ℕ) (frame out : List ℕ) (before answer : ℕ) (outAfter : List ℕ) (after : ℕ) : Type 0 where
+  pub answers : answer ≡ refusalOf (saidToWrite (written may n frame out))
+  pub content : outAfter ≡ leaves may frame out
+  pub told : after ≡ lengthOr before (written may n frame out)
+
+abbrev pub WritesGiven : ℕ → ℕ → List ℤ → List ℕ → ℕ → ℕ → List ℕ → ℕ → Type 0
+WritesGiven kind code vs =
+    let f = frameOf kind code vs in
+    WritesNumbers (allowed f) (notAllowed f) (bytesOf f)
