@@ -1,43 +1,15 @@
--- When bytes are a packet or a report: by their length, and by the tests one after the other.
+-- When bytes are a report: by the tests one after the other.
 -- Assumes nothing.
-use Prim.Native.Nat.{ℕ, _%_, _/_}
-use mathlib.Core.Path.{_≡_, refl, sym, ap, _∙_}
+use Prim.Native.Nat.{ℕ}
+use mathlib.Core.Path.{_≡_, sym, ap, _∙_}
 use mathlib.Core.Bool.{Bool, true, false, _&&_, cond, and-false}
-use mathlib.Core.List.{List, [], _∷_}
-use native.Mathlib.Omega.{arith}
-use lib.ListN.{length, drop, getD, length-append, length-take, length-drop}
-use lib.Seq.{length-take-le}
-use Rattle.rules.specs.Bytes.{same, total}
-use Rattle.rules.specs.Codes.{isPacket, packet}
-use Rattle.rules.specs.Status.{statusFrame, dataOf, joined, cut, widths, readable, statusInRange, statusOf, isStatus}
+use mathlib.Core.List.{List}
+use Rattle.rules.specs.Bytes.{same}
+use Rattle.rules.specs.Status.{dataOf, joined, cut, widths, readable, statusInRange, statusOf, isStatus}
 use Rattle.rules.specs.declared.Frame.the-variants.{Status}
 use Rattle.rules.specs.declared.Reading.the-variants.{Good, Refused}
-use Rattle.laws.proofs.Bytes.{same-eq}
-use Rattle.laws.proofs.Lists.{lengths-differ}
+use Rattle.spe_tests.proofs.Frames.{framed}
 use Rattle.spe.specs.Report.{reportIn}
-
--- a packet is six bytes
-pub not-packet : (mark : ℕ) (s : List ℕ) → (length s ≡ 6 → ⊥) → isPacket mark s ≡ false
-not-packet mark s h = lengths-differ s (packet mark (getD s 4 0)) h
-
-abbrev pub framed : List ℕ → Bool
-framed s = same s (statusFrame (dataOf s))
-
--- a frame around its own data is 75 bytes, so its data is 67
-frame-length : (s : List ℕ) → length s ≡ length (statusFrame (dataOf s)) → length s ≡ 75
-unfolding statusFrame
-frame-length s e =
-    let ends = total (dataOf s) % 256 ∷ total (dataOf s) / 256 ∷ 0x0D ∷ 0x0A ∷ [] in
-    omega (arith, e, length-append (dataOf s) ends, length-take 67 (drop 4 s), length-drop 4 s)
-
-pub not-framed : (s : List ℕ) → (length s ≡ 75 → ⊥) → framed s ≡ false
-not-framed s h = lengths-differ s (statusFrame (dataOf s)) (λ e. h (frame-length s e))
-
-pub data-length : (s : List ℕ) → length s ≡ 75 → length (dataOf s) ≡ 67
-data-length s h = length-take-le 67 (drop 4 s) (omega (arith, length-drop 4 s))
-
-pub framed-data : (s : List ℕ) → framed s ≡ true → length (dataOf s) ≡ 67
-framed-data s t = data-length s (frame-length s (ap length (same-eq s (statusFrame (dataOf s)) t)))
 
 -- the four tests of a report, in their order
 module _ (s : List ℕ) where

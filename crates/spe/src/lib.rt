@@ -2,21 +2,20 @@
 use leaves::one_digit;
 use leaves::padded_number;
 use leaves::pointed_number;
-use leaves::sum;
 use leaves::text;
 use leaves::two_digits;
-use leaves::wide;
 use rules::Frame;
 use rules::Reading;
 use rules::Status;
 use spe_rules::is_ack_code;
 use spe_rules::is_code;
 use spe_rules::status_in_range;
+use spe_tests::is_packet;
+use spe_tests::is_report;
 ghost use mathlib.Core.Path.{_≡_};
 ghost use lib.ListN.{length};
 ghost use Rattle.rules.specs.Bytes.{same};
-ghost use Rattle.rules.specs.Codes.{isPacket};
-ghost use Rattle.rules.specs.Status.{statusFrame, dataOf, joined, cut, widths};
+ghost use Rattle.rules.specs.Status.{joined, cut, widths};
 ghost use Rattle.rules.specs.Answers.{readFamily1, readFamily3};
 ghost use Rattle.spe.specs.Report.{FieldsOf, FrontOf, MetersOf, reportIn};
 
@@ -47,34 +46,6 @@ struct Meters {
     upper: u32,
     lower: u32,
     combiner: u32,
-}
-
-// Whether the bytes are three marks, the count 01 and a code twice.
-fn is_packet(mark: u8, s: &[u8]) -> bool
-    ensures { λ r. ⌜ r ≡ isPacket mark (now (s .entry)) ⌝ }
-{
-    if s.len() != 6 {
-        return false;
-    }
-    let c = s[4];
-    (s[0] == mark) & (s[1] == mark) & (s[2] == mark) & (s[3] == 0x01) & (s[5] == c)
-}
-
-// Whether the bytes are a report's frame around their own data: marks, count, sums, 0D 0A.
-fn is_report(s: &[u8]) -> bool
-    ensures { λ r. ⌜ r ≡ same (now (s .entry)) (statusFrame (dataOf (now (s .entry)))) ⌝ }
-{
-    if s.len() != 75 {
-        return false;
-    }
-    if !((s[0] == 0xAA) & (s[1] == 0xAA) & (s[2] == 0xAA) & (s[3] == 0x43)) {
-        return false;
-    }
-    if !((s[73] == 0x0D) & (s[74] == 0x0A)) {
-        return false;
-    }
-    let sum = sum(text(s, 4, 67));
-    (wide(s[71]) == sum % 256) & (wide(s[72]) == sum / 256)
 }
 
 // Whether commas stand where the widths of the fields put them.

@@ -12,7 +12,7 @@ use Rattle.rules.specs.Answers.{readFamily3}
 use Rattle.rules.specs.declared.Frame.the-variants.{Command}
 use Rattle.rules.specs.declared.Reading.{Reading}
 use Rattle.rules.specs.declared.Reading.the-variants.{Good, Refused}
-use Rattle.spe.proofs.Frames.{not-packet}
+use Rattle.spe_tests.proofs.Frames.{not-packet}
 use Rattle.spe.proofs.read_command.Statement.{statement}
 use Rattle.spe.proofs.read_command.Tie as tie
 

@@ -14,7 +14,8 @@ use Rattle.rules.specs.declared.Frame.the-variants.{Ack}
 use Rattle.rules.specs.declared.Reading.{Reading}
 use Rattle.rules.specs.declared.Reading.the-variants.{Good, Refused}
 use Rattle.spe.specs.Report.{reportIn}
-use Rattle.spe.proofs.Frames.{not-packet, not-framed, not-a-frame}
+use Rattle.spe_tests.proofs.Frames.{not-packet, not-framed}
+use Rattle.spe.proofs.Frames.{not-a-frame}
 use Rattle.spe.proofs.read_reply.Statement.{statement}
 use Rattle.spe.proofs.read_reply.Tie as tie
 

@@ -1,4 +1,4 @@
--- `spe::is_packet` meets its contract: six bytes are compared with the packet one by one, and the code with itself.
+-- `spe_tests::is_packet` meets its contract: six bytes are compared with the packet one by one, and the code with itself.
 -- Assumes nothing.
 use Prim.Native.Nat.{ℕ}
 use mathlib.Core.Path.{_≡_, refl, sym, ap, _∙_}
@@ -11,9 +11,9 @@ use lib.ListN.{length, getD}
 use Rattle.rules.specs.Bytes.{same}
 use Rattle.rules.specs.Codes.{isPacket, packet}
 use Rattle.laws.proofs.Lists.{last}
-use Rattle.spe.proofs.Frames.{not-packet}
-use Rattle.spe.proofs.is_packet.Statement.{statement}
-use Rattle.spe.proofs.is_packet.Tie as tie
+use Rattle.spe_tests.proofs.Frames.{not-packet}
+use Rattle.spe_tests.proofs.is_packet.Statement.{statement}
+use Rattle.spe_tests.proofs.is_packet.Tie as tie
 
 six : (mark : ℕ) (s : List ℕ) → length s ≡ 6
     → (eqb (getD s 0 0) mark && eqb (getD s 1 0) mark && eqb (getD s 2 0) mark && eqb (getD s 3 0) 1 && eqb (getD s 5 0) (getD s 4 0))

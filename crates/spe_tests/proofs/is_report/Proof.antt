@@ -1,4 +1,4 @@
--- `spe::is_report` meets its contract: 75 bytes are four that stand in front, the data and four that stand behind, and the
+-- `spe_tests::is_report` meets its contract: 75 bytes are four that stand in front, the data and four that stand behind, and the
 -- data is the same as itself. The sum of 67 bytes does not wrap.
 -- Assumes nothing.
 use Prim.Native.Nat.{ℕ, _+_, _/_, _%_, _^_}
@@ -15,9 +15,9 @@ use lib.Seq.{drop-drop}
 use Rattle.rules.specs.Bytes.{same, total}
 use Rattle.rules.specs.Status.{statusFrame, dataOf}
 use Rattle.laws.proofs.Lists.{next, last, same-front, AreBytes, bytes-take, bytes-drop, total-below}
-use Rattle.spe.proofs.Frames.{data-length, not-framed}
-use Rattle.spe.proofs.is_report.Statement.{statement}
-use Rattle.spe.proofs.is_report.Tie as tie
+use Rattle.spe_tests.proofs.Frames.{data-length, not-framed}
+use Rattle.spe_tests.proofs.is_report.Statement.{statement}
+use Rattle.spe_tests.proofs.is_report.Tie as tie
 
 abbrev front : List ℕ → Bool
 front s = eqb (getD s 0 0) 0xAA && eqb (getD s 1 0) 0xAA && eqb (getD s 2 0) 0xAA && eqb (getD s 3 0) 0x43
