@@ -14,7 +14,8 @@ use Rattle.rules.specs.Numbers.{isDigit}
 use Rattle.rules.specs.Sentences.{isPayload, isPayloadByte, isSentence, payloadOf, checkOf, nothingOrComma, gives, numberOf, textsOf}
 use Rattle.rules.specs.Answers.{readTexts, readFamily2, notGood}
 use Rattle.rules.specs.declared.Reading.the-variants.{Refused}
-use Rattle.laws.proofs.Bytes.{both, answer, same-eq, eq-same, bounds-between}
+use Rattle.laws.proofs.Bytes.{both, tests, answer, same-eq, eq-same, between-bounds, bounds-between}
+use Rattle.laws.proofs.Sentences.{sentence-payload}
 use Rattle.leaves.proofs.Steps.{at as from-place}
 use Rattle.alpha.specs.Payloads.{isNamed, isChecked}
 
@@ -71,7 +72,7 @@ module _ (bs : List ℕ) where
     no-star h = ⊎-elim (λ e. absurd (h (marks e .1))) (λ e. e) (answer (isSentence bs))
 
     -- the parts as they are cut
-    pub the-payload : part 1 (length bs - 5 - 1) bs ≡ payloadOf bs
+    the-payload : part 1 (length bs - 5 - 1) bs ≡ payloadOf bs
     the-payload = let e : length bs - 5 - 1 ≡ length bs - 6 = omega arith in rw e
 
     the-check : part (length bs - 4) (length bs - (length bs - 4)) bs ≡ checkOf bs
@@ -85,13 +86,22 @@ module _ (bs : List ℕ) where
         rw (the-payload, the-check, eq-same bs _ (framed d s), bounds-between 5 128 (length (payloadOf bs)) (omega (arith, payload-length)) (omega (arith, payload-length)))
         (reordered (every isPayloadByte p) (same (take 3 p) (ascii "APA")) (every isDigit (part 3 2 p)) (nothingOrComma (drop 5 p)) (gives (checkOf bs) p))
 
-    pub named-number : isNamed (part 1 (length bs - 5 - 1) bs) ≡ true
-        → (5 ≤ length (part 1 (length bs - 5 - 1) bs)) × (every isDigit (part 3 2 (part 1 (length bs - 5 - 1) bs)) ≡ true)
-    named-number e =
-        let p = part 1 (length bs - 5 - 1) bs in
-        let f = both (same (take 3 p) (ascii "APA") && every isDigit (part 3 2 p)) (nothingOrComma (drop 5 p)) e in
-        (rw the-payload (omega (arith, payload-length)), both (same (take 3 p) (ascii "APA")) (every isDigit (part 3 2 p)) (f .0) .1)
+  -- a sentence has a payload, and that a number
+  module _ (good : isSentence bs ≡ true) where
+    pub long-enough : 11 ≤ length bs
+    unfolding isPayload
+    long-enough =
+        let inside = sentence-payload bs good in
+        let long : between 5 128 (length (payloadOf bs)) ≡ true = search tests in
+        let bounds = between-bounds 5 128 (length (payloadOf bs)) long in
+        omega (arith, payload-length)
 
-    pub a-sentence : isSentence bs ≡ true → readTexts (numberOf (part 1 (length bs - 5 - 1) bs)) (textsOf (part 1 (length bs - 5 - 1) bs)) ≡ readFamily2 bs
+    pub numbered : (5 ≤ length (part 1 (length bs - 5 - 1) bs)) × (every isDigit (part 3 2 (part 1 (length bs - 5 - 1) bs)) ≡ true)
+    unfolding isPayload
+    numbered =
+        let inside = sentence-payload bs good in
+        rw (the-payload long-enough) (omega (arith, payload-length, long-enough), search tests)
+
+    pub a-sentence : readTexts (numberOf (part 1 (length bs - 5 - 1) bs)) (textsOf (part 1 (length bs - 5 - 1) bs)) ≡ readFamily2 bs
     unfolding readFamily2
-    a-sentence e = rw (the-payload, e)
+    a-sentence = rw (the-payload long-enough, good)

@@ -6,3 +6,5 @@ pub mod Temperatures
 pub mod Sentences
 pub mod Payloads
 pub mod Frames
+pub mod Bounds
+pub mod FullWidth

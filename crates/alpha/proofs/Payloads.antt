@@ -1,23 +1,24 @@
 -- The tests of a payload, as they are read: its name, its number, and its check digits.
 -- Each goes by cases on the tests. Assumes nothing.
-use Prim.Native.Nat.{ℕ, _-_, _≤_, _<_}
-use mathlib.Core.Path.{_≡_, refl, _∙_}
-use mathlib.Core.Bool.{Bool, true, false, _&&_, cond}
-use mathlib.Core.List.{List, [], _∷_}
+use Prim.Native.Nat.{ℕ, _-_, _/_, _%_, _≤_, _<_}
+use mathlib.Core.Path.{_≡_, sym, ap, _∙_}
+use mathlib.Core.Bool.{Bool, true, _&&_, and-assoc, and-true}
+use mathlib.Core.List.{List, _++_}
 use native.Mathlib.Omega.{arith}
 use lib.Dec.{eqb}
 use lib.ListN.{length, take, drop, getD, length-drop, drop-of-length-le}
 use lib.Seq.{length-take-le, take-all}
 use borrow.Author.Tests.{ne-eqb}
-use Rattle.rules.specs.Bytes.{part, every}
-use Rattle.rules.specs.Numbers.{isDigit, isHexDigit, hexNumber}
+use Rattle.rules.specs.Bytes.{part, every, same}
+use Rattle.rules.specs.Numbers.{isDigit, hexDigit, hexDigits}
 use Rattle.rules.specs.Sentences.{nothingOrComma, gives, sum1, sum2, numberOf, is02, is03, is05, sentence02, sentence03, sentence05}
 use Rattle.rules.specs.Answers.{readTexts}
 use Rattle.rules.specs.declared.Frame.the-variants.{Apa02, Apa03, Apa05, Other}
 use Rattle.rules.specs.declared.Reading.the-variants.{Good}
+use Rattle.laws.proofs.Bytes.{one-by-one}
+use Rattle.laws.proofs.Sentences.{given-by-digits}
 use Rattle.leaves.specs.Leaves.{digitsIn}
 use Rattle.leaves.proofs.Steps.{at as from-place}
-use Rattle.hex.specs.Hex.{pairIn}
 use Rattle.alpha.specs.Fields.{Text}
 use Rattle.alpha.specs.Held.{held}
 use Rattle.alpha.proofs.Texts.{as-wide, counted, count-below}
@@ -48,37 +49,19 @@ module _ (p : List ℕ) where
 pub behind : (p : List ℕ) → take (length p - 5) (drop 5 p) ≡ drop 5 p
 behind p = take-all (length p - 5) (drop 5 p) (omega (arith, length-drop 5 p))
 
--- The check digits, two by two.
-by-pairs : (a b c d : Bool) (x y second first : ℕ)
-    → a && b && (c && d) && eqb (cond (a && b) x 0) second && eqb (cond (c && d) y 0) first
-    ≡ (a && (b && (c && (d && true)))) && eqb x second && eqb y first
-by-pairs true true true true x y second first = refl
-by-pairs true true true false x y second first = refl
-by-pairs true true false d x y second first = refl
-by-pairs true false c d x y second first = refl
-by-pairs false b c d x y second first = refl
+-- The check digits, one by one, behind a test of the bytes.
+grouped : (a b c d e : Bool) → a && b && c && d && e ≡ a && (b && (c && (d && (e && true))))
+grouped a b c d e = simp (and-assoc, and-true)
 
-given-by : (check p : List ℕ) → length check ≡ 4
-    → pairIn (getD check 0 0) (getD check 1 0) .good && pairIn (getD check 2 0) (getD check 3 0) .good
-    && eqb (pairIn (getD check 0 0) (getD check 1 0) .value) (sum2 p)
-    && eqb (pairIn (getD check 2 0) (getD check 3 0) .value) (sum1 p)
-    ≡ gives check p
-unfolding gives every pairIn
-given-by (a ∷ b ∷ c ∷ d ∷ []) p h = by-pairs (isHexDigit a) (isHexDigit b) (isHexDigit c) (isHexDigit d) (hexNumber a b) (hexNumber c d) (sum2 p) (sum1 p)
-given-by [] p h = absurd (omega arith)
-given-by (a ∷ []) p h = absurd (omega arith)
-given-by (a ∷ b ∷ []) p h = absurd (omega arith)
-given-by (a ∷ b ∷ c ∷ []) p h = absurd (omega arith)
-given-by (a ∷ b ∷ c ∷ d ∷ e ∷ rest) p h = absurd (omega arith)
-
--- the same, behind a test of the bytes
 pub checked : (allowed : Bool) (check p : List ℕ) → length check ≡ 4
-    → allowed && pairIn (getD check 0 0) (getD check 1 0) .good && pairIn (getD check 2 0) (getD check 3 0) .good
-    && eqb (pairIn (getD check 0 0) (getD check 1 0) .value) (sum2 p)
-    && eqb (pairIn (getD check 2 0) (getD check 3 0) .value) (sum1 p)
+    → allowed && eqb (getD check 0 0) (hexDigit (sum2 p / 16)) && eqb (getD check 1 0) (hexDigit (sum2 p % 16))
+    && eqb (getD check 2 0) (hexDigit (sum1 p / 16)) && eqb (getD check 3 0) (hexDigit (sum1 p % 16))
     ≡ allowed && gives check p
-checked true check p h = given-by check p h
-checked false check p h = refl
+unfolding same
+checked allowed check p four =
+    grouped allowed _ _ _ _
+    ∙ ap (λ (b : Bool). allowed && b)
+    (ap (λ (l : List ℕ). same l (hexDigits (sum2 p) ++ hexDigits (sum1 p))) (one-by-one 0 4 check four) ∙ sym (given-by-digits check p four))
 
 -- The answer, by the number.
 module _ (n : ℕ) (ts : List Text) where

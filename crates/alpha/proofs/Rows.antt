@@ -62,10 +62,10 @@ whole-row so = record {
 }
 
 -- what every entry of a list passes, the entry at each place passes
-pub each : (test : ℕ → Bool) (xs : List ℕ) (k : ℕ) → every test xs ≡ true → k < length xs → test (getD xs k 0) ≡ true
-each test [] k e h = absurd (not-suc-le-zero h)
-each test (x ∷ xs) zero e h = every-split test x xs e .0
-each test (x ∷ xs) (suc k) e h = each test xs k (every-split test x xs e .1) (le-of-suc-le-suc h)
+pub each : {A : Type 0} (test : A → Bool) (none : A) (xs : List A) (k : ℕ) → every test xs ≡ true → k < length xs → test (getD xs k none) ≡ true
+each test none [] k e h = absurd (not-suc-le-zero h)
+each test none (x ∷ xs) zero e h = every-split test x xs e .0
+each test none (x ∷ xs) (suc k) e h = each test none xs k (every-split test x xs e .1) (le-of-suc-le-suc h)
 
 -- the next of the tests for fields of these widths, and of one test for each of n fields
 pub next-width : (ws : List ℕ) (k : ℕ) → k < length ws → drop k (map isDecimal ws) ≡ isDecimal (getD ws k 0) ∷ drop (k + 1) (map isDecimal ws)

@@ -3,3 +3,4 @@ pub mod Fields
 pub mod Values
 pub mod Held
 pub mod Payloads
+pub mod Bounds

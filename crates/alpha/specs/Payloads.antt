@@ -1,11 +1,12 @@
--- The tests of a payload, in two parts: how it begins, and what takes a pass over all of it.
+-- The tests of a payload, in three parts: how it begins, what takes a pass over all of it, and its fields.
 use Prim.Native.Nat.{ℕ}
 use mathlib.Core.Bool.{Bool, _&&_}
 use mathlib.Core.List.{List}
 use lib.ListN.{take, drop}
 use Rattle.rules.specs.Bytes.{ascii, same, part, every}
 use Rattle.rules.specs.Numbers.{isDigit}
-use Rattle.rules.specs.Sentences.{isPayloadByte, nothingOrComma, gives}
+use Rattle.rules.specs.Sentences.{isPayloadByte, nothingOrComma, gives, numberOf, textsOf}
+use Rattle.rules.specs.Answers.{isGood, readTexts}
 
 -- `APA`, two digits, and then nothing or a comma
 abbrev pub isNamed : List ℕ → Bool
@@ -14,3 +15,7 @@ isNamed p = same (take 3 p) (ascii "APA") && every isDigit (part 3 2 p) && nothi
 -- each byte may stand in a payload, and the check digits give its sums
 abbrev pub isChecked : List ℕ → List ℕ → Bool
 isChecked check p = every isPayloadByte p && gives check p
+
+-- its texts keep the rules of its number
+abbrev pub isGoodPayload : List ℕ → Bool
+isGoodPayload p = isGood (readTexts (numberOf p) (textsOf p))

@@ -1,5 +1,6 @@
 // Reads one sentence of the Alpha 9500, as a whole.
 mod fields;
+mod full;
 mod records;
 
 use records::NOT_GOOD;
@@ -7,40 +8,65 @@ use rules::Frame;
 use rules::Reading;
 ghost use mathlib.Core.Path.{_≡_};
 ghost use mathlib.Core.Bool.{true};
-ghost use Prim.Native.Nat.{_≤_};
+ghost use Prim.Native.Nat.{_≤_, _<_};
 ghost use lib.ListN.{length};
 ghost use Rattle.rules.specs.Bytes.{part, every};
-ghost use Rattle.rules.specs.Numbers.{isDigit};
-ghost use Rattle.rules.specs.Sentences.{numberOf, textsOf};
-ghost use Rattle.rules.specs.Answers.{readTexts, readFamily2};
+ghost use Rattle.rules.specs.Numbers.{isDigit, hexDigit};
+ghost use Rattle.rules.specs.Sentences.{isSentence, numberOf, textsOf};
+ghost use Rattle.rules.specs.Answers.{isGood, readTexts, readFamily2};
 ghost use Rattle.alpha.specs.Payloads.{isNamed, isChecked};
 
-// The record of a good sentence, its number where it has none, or the refusal 8. The tests that cost
-// least come first.
+// The record of a good sentence, its number where it has none, or the refusal 8.
 pub fn read_sentence(s: &[u8]) -> Reading
     ensures { λ r. ⌜ r ≡ readFamily2 (now (s .entry)) ⌝ }
 {
+    if !is_framed(s) {
+        return Reading::Refused(NOT_GOOD);
+    }
+    read_payload(&s[1..s.len() - 5])
+}
+
+// Whether the bytes are, as a whole, a good sentence. Of one in the writer's form the fields are not
+// read.
+pub fn is_sentence(s: &[u8]) -> bool
+    ensures { λ r. ⌜ r ≡ isGood (readFamily2 (now (s .entry))) ⌝ }
+{
+    if !is_framed(s) {
+        return false;
+    }
+    let p = &s[1..s.len() - 5];
+    if full::is_full(p) {
+        return true;
+    }
+    match read_payload(p) {
+        Reading::Good(_) => true,
+        Reading::Refused(_) => false,
+    }
+}
+
+// Whether the bytes are a sentence, whatever stands in its fields. The tests that cost least come
+// first.
+fn is_framed(s: &[u8]) -> bool
+    ensures { λ r. ⌜ r ≡ isSentence (now (s .entry)) ⌝ }
+{
     let n = s.len();
     if n < 11 {
-        return Reading::Refused(NOT_GOOD);
+        return false;
     }
     if 134 < n {
-        return Reading::Refused(NOT_GOOD);
+        return false;
     }
     if s[0] != b'$' {
-        return Reading::Refused(NOT_GOOD);
+        return false;
     }
     if s[n - 5] != b'*' {
-        return Reading::Refused(NOT_GOOD);
+        return false;
     }
     let p = &s[1..n - 5];
     if !is_named(p) {
-        return Reading::Refused(NOT_GOOD);
+        return false;
     }
-    if !is_checked(p, &s[n - 4..]) {
-        return Reading::Refused(NOT_GOOD);
-    }
-    read_payload(p)
+    is_checked(p, &s[n - 4..])
 }
 
 // Whether a payload begins as it should: `APA`, two digits, and then nothing or a comma.
@@ -56,19 +82,31 @@ fn is_named(p: &[u8]) -> bool
     letters & number.good & (p[5] == b',')
 }
 
-// Whether each byte may stand in a payload, and the four digits give its sums, the second sum first.
+// Whether each byte may stand in a payload, and the four digits are those of its sums, the second
+// sum first.
 fn is_checked(p: &[u8], check: &[u8]) -> bool
     requires { ⌜ length (now check) ≡ 4 ⌝ }
     ensures { λ r. ⌜ r ≡ isChecked (now (check .entry)) (now (p .entry)) ⌝ }
 {
     let sums = fletcher::fletcher(p);
-    let second = hex::hex_pair(check[0], check[1]);
-    let first = hex::hex_pair(check[2], check[3]);
+    let sum1 = sums.sum1;
+    let sum2 = sums.sum2;
     sums.allowed
-        & second.good
-        & first.good
-        & (second.value == sums.sum2)
-        & (first.value == sums.sum1)
+        & (check[0] == hex_char(sum2 / 16))
+        & (check[1] == hex_char(sum2 % 16))
+        & (check[2] == hex_char(sum1 / 16))
+        & (check[3] == hex_char(sum1 % 16))
+}
+
+// The hexadecimal digit of a number.
+fn hex_char(n: u8) -> u8
+    requires { ⌜ n < 16 ⌝ }
+    ensures { λ r. ⌜ r ≡ hexDigit n ⌝ }
+{
+    if n < 10 {
+        return b'0' + n;
+    }
+    b'A' + (n - 10)
 }
 
 // The record of a payload, by its number.

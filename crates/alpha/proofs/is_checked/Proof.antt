@@ -1,5 +1,5 @@
--- `alpha::is_checked` meets its contract: the pass gives the sums and the test of the bytes, and each pair of digits its
--- number. Assumes nothing.
+-- `alpha::is_checked` meets its contract: the pass gives the sums and the test of the bytes, and each check byte is the
+-- digit of its part of a sum. Assumes nothing.
 use denote.Ref.{now}
 use borrow.Author.Needs.{needs}
 use Rattle.rules.specs.Bytes.{every}
@@ -12,31 +12,39 @@ use Rattle.alpha.proofs.is_checked.Tie as tie
 fletcher-requires : tie.Need-fletcher-requires
 fletcher-requires c κs = search needs
 
-shared-slice-read-hex-pair : tie.Need-shared-slice-read-hex-pair
-shared-slice-read-hex-pair c = search needs
+shared-slice-read-result : tie.Need-shared-slice-read-result
+shared-slice-read-result c = search needs
 
-shared-slice-read-hex-pair-2 : tie.Need-shared-slice-read-hex-pair-2
-shared-slice-read-hex-pair-2 c = search needs
+hex-char-requires : tie.Need-hex-char-requires
+hex-char-requires c κs = search needs
 
-hex-pair-requires : tie.Need-hex-pair-requires
-hex-pair-requires c κs = search needs
+shared-slice-read-result-2 : tie.Need-shared-slice-read-result-2
+shared-slice-read-result-2 c = search needs
 
-shared-slice-read-hex-pair-3 : tie.Need-shared-slice-read-hex-pair-3
-shared-slice-read-hex-pair-3 c = search needs
+hex-char-requires-2 : tie.Need-hex-char-requires-2
+hex-char-requires-2 c κs = search needs
 
-shared-slice-read-hex-pair-4 : tie.Need-shared-slice-read-hex-pair-4
-shared-slice-read-hex-pair-4 c = search needs
+shared-slice-read-result-3 : tie.Need-shared-slice-read-result-3
+shared-slice-read-result-3 c = search needs
 
-hex-pair-requires-2 : tie.Need-hex-pair-requires-2
-hex-pair-requires-2 c κs = search needs
+hex-char-requires-3 : tie.Need-hex-char-requires-3
+hex-char-requires-3 c κs = search needs
+
+shared-slice-read-result-4 : tie.Need-shared-slice-read-result-4
+shared-slice-read-result-4 c = search needs
+
+hex-char-requires-4 : tie.Need-hex-char-requires-4
+hex-char-requires-4 c κs = search needs
 
 returns : tie.Need-returns
 unfolding sumsIn
 returns c =
-    let second = c .before .before .before .before .before .before .before .before .before .before in
-    let first = c .before .before .before .before .before .before .before in
-    let start = second .before .before .before .before .before .before in
-    rw (second .before .before .before .fletcher .ensures, second .hex-pair .ensures, first .hex-pair2 .ensures)
+    let third = c .before .before in
+    let second = third .before .before in
+    let first = second .before .before .before in
+    let summed = first .before .before in
+    let start = summed .before .before .before in
+    rw (first .hex-char .ensures, second .hex-char2 .ensures, third .hex-char3 .ensures, c .hex-char4 .ensures, summed .fletcher .ensures)
     (checked (every isPayloadByte (now (start .args .p))) (now (start .args .check)) (now (start .args .p)) (start .pre))
 
 pub is-checked-spec : {M : Type 1} → statement M
@@ -44,10 +52,12 @@ is-checked-spec =
     tie.close
     (tie.spec
     fletcher-requires
-    shared-slice-read-hex-pair
-    shared-slice-read-hex-pair-2
-    hex-pair-requires
-    shared-slice-read-hex-pair-3
-    shared-slice-read-hex-pair-4
-    hex-pair-requires-2
+    shared-slice-read-result
+    hex-char-requires
+    shared-slice-read-result-2
+    hex-char-requires-2
+    shared-slice-read-result-3
+    hex-char-requires-3
+    shared-slice-read-result-4
+    hex-char-requires-4
     returns)

@@ -1,158 +1,51 @@
--- `alpha::read_sentence` meets its contract: its tests, one after the other, are those of a sentence, and past them the
--- payload is read. Assumes nothing.
-use Prim.Native.Nat.{ℕ, _-_, _≤_}
-use mathlib.Core.Path.{_≡_, sym, _∙_, ap}
-use mathlib.Core.Bool.{Bool, true, _&&_, and-false}
-use mathlib.Core.List.{List}
-use lib.ListN.{length}
+-- `alpha::read_sentence` meets its contract: a sentence has a payload, which is read. Assumes nothing.
+use mathlib.Core.Path.{_≡_, sym, _∙_}
+use mathlib.Core.Bool.{true}
+use native.Mathlib.Omega.{arith}
 use denote.Ref.{now}
 use borrow.Author.Needs.{needs}
 use borrow.Author.Tests.{not-true, not-false}
-use Rattle.rules.specs.Bytes.{part}
 use Rattle.rules.specs.Sentences.{isSentence}
-use Rattle.laws.proofs.Bytes.{both-pass}
-use Rattle.alpha.specs.Payloads.{isNamed, isChecked}
-use Rattle.alpha.proofs.Frames.{no-sentence, too-short, too-long, no-dollar, no-star, by-tests, named-number, a-sentence}
+use Rattle.alpha.proofs.Frames.{no-sentence, long-enough, numbered, a-sentence}
 use Rattle.alpha.proofs.read_sentence.Statement.{statement}
 use Rattle.alpha.proofs.read_sentence.Tie as tie
 
+is-framed-requires : tie.Need-is-framed-requires
+is-framed-requires c κs = search needs
+
 returns : tie.Need-returns
-returns c = no-sentence _ (too-short (now (c .before .before .args .s)) (c .if1 .taken))
+returns c = no-sentence _ (sym (c .before .is-framed .ensures) ∙ not-true _ (c .if1 .taken))
 
-returns-2 : tie.Need-returns-2
-returns-2 c = no-sentence _ (too-long (now (c .before .before .before .args .s)) (c .if2 .taken))
+good : (c : tie.Else1) → isSentence (now (c .before .before .before .args .s)) ≡ true
+good c = sym (c .before .is-framed .ensures) ∙ not-false _ (c .if1 .left)
 
-shared-slice-read-if3 : tie.Need-shared-slice-read-if3
-shared-slice-read-if3 c = search needs
+sub-read-payload : tie.Need-sub-read-payload
+sub-read-payload c = omega (arith, long-enough _ (good c))
 
-returns-3 : tie.Need-returns-3
-returns-3 c =
-    no-sentence _
-    (no-dollar (now (c .before .before .before .before .before .args .s)) (c .before .before .before .if1 .left) (c .if3 .taken))
+sub-read-payload-2 : tie.Need-sub-read-payload-2
+sub-read-payload-2 c = omega (arith, long-enough _ (good c))
 
-sub-if4 : tie.Need-sub-if4
-sub-if4 c = search needs
+part-read-payload-start : tie.Need-part-read-payload-start
+part-read-payload-start c = omega (arith, long-enough _ (good c))
 
-shared-slice-read-if4 : tie.Need-shared-slice-read-if4
-shared-slice-read-if4 c = search needs
-
-returns-4 : tie.Need-returns-4
-returns-4 c =
-    no-sentence _
-    (no-star (now (c .before .before .before .before .before .before .before .args .s)) (c .before .before .before .before .before .if1 .left) (c .if4 .taken))
-
--- past the tests of the frame
-the-bytes : tie.Else4 → List ℕ
-the-bytes c = now (c .before .before .before .before .before .before .before .args .s)
-
-abbrev payload : tie.Else4 → List ℕ
-payload c = part 1 (length (the-bytes c) - 5 - 1) (the-bytes c)
-
-abbrev check : tie.Else4 → List ℕ
-check c = part (length (the-bytes c) - 4) (length (the-bytes c) - (length (the-bytes c) - 4)) (the-bytes c)
-
-not-short : (c : tie.Else4) → 11 ≤ length (the-bytes c)
-unfolding the-bytes
-not-short c = c .before .before .before .before .before .if1 .left
-
-tested : (c : tie.Else4) → isSentence (the-bytes c) ≡ isNamed (payload c) && isChecked (check c) (payload c)
-unfolding the-bytes
-tested c =
-    by-tests (the-bytes c) (not-short c) (c .before .before .before .before .if2 .left) (c .before .before .if3 .left) (c .if4 .left)
-
-sub-p : tie.Need-sub-p
-sub-p c = search needs
-
-sub-p-2 : tie.Need-sub-p-2
-sub-p-2 c = search needs
-
-part-p-start : tie.Need-part-p-start
-part-p-start c = search needs
-
-part-p-end : tie.Need-part-p-end
-part-p-end c = search needs
-
-is-named-requires : tie.Need-is-named-requires
-is-named-requires c κs = search needs
-
-returns-5 : tie.Need-returns-5
-unfolding the-bytes
-returns-5 c =
-    let framed = c .before .before .before in
-    no-sentence (the-bytes framed)
-    (tested framed
-    ∙ ap (λ (b : Bool). b && isChecked (check framed) (payload framed)) (sym (c .before .is-named .ensures) ∙ not-true _ (c .if5 .taken)))
-
-sub-is-checked : tie.Need-sub-is-checked
-sub-is-checked c = search needs
-
-sub-is-checked-2 : tie.Need-sub-is-checked-2
-sub-is-checked-2 c = search needs
-
-part-is-checked-start : tie.Need-part-is-checked-start
-part-is-checked-start c = search needs
-
-part-is-checked-end : tie.Need-part-is-checked-end
-part-is-checked-end c = search needs
-
-is-checked-requires : tie.Need-is-checked-requires
-is-checked-requires c κs = search needs
-
-returns-6 : tie.Need-returns-6
-unfolding the-bytes
-returns-6 c =
-    let framed = c .before .before .before .before .before .before in
-    no-sentence (the-bytes framed)
-    (tested framed
-    ∙ ap (λ (b : Bool). isNamed (payload framed) && b) (sym (c .before .is-checked .ensures) ∙ not-true _ (c .if6 .taken))
-    ∙ and-false (isNamed (payload framed)))
-
--- past all tests
-abbrev frame-of : tie.Else6 → tie.Else4
-frame-of c = c .before .before .before .before .before .before
-
-named : (c : tie.Else6) → isNamed (payload (frame-of c)) ≡ true
-unfolding the-bytes
-named c = sym (c .before .before .before .before .is-named .ensures) ∙ not-false _ (c .before .before .before .if5 .left)
-
-good : (c : tie.Else6) → isSentence (the-bytes (frame-of c)) ≡ true
-unfolding the-bytes
-good c =
-    tested (frame-of c)
-    ∙ both-pass (isNamed (payload (frame-of c))) _ (named c) (sym (c .before .is-checked .ensures) ∙ not-false _ (c .if6 .left))
+part-read-payload-end : tie.Need-part-read-payload-end
+part-read-payload-end c = search needs
 
 read-payload-requires : tie.Need-read-payload-requires
-unfolding the-bytes
-read-payload-requires c κs = named-number (the-bytes (frame-of c)) (not-short (frame-of c)) (named c)
+read-payload-requires c κs = numbered _ (good (c .before))
 
-returns-7 : tie.Need-returns-7
-unfolding the-bytes
-returns-7 c =
-    let framed = frame-of (c .before) in
-    c .read-payload .ensures ∙ a-sentence (the-bytes framed) (not-short framed) (good (c .before))
+returns-2 : tie.Need-returns-2
+returns-2 c = c .read-payload .ensures ∙ a-sentence _ (good (c .before .before))
 
 pub read-sentence-spec : {M : Type 1} → statement M
 read-sentence-spec =
     tie.close
     (tie.spec
+    is-framed-requires
     returns
-    returns-2
-    shared-slice-read-if3
-    returns-3
-    sub-if4
-    shared-slice-read-if4
-    returns-4
-    sub-p
-    sub-p-2
-    part-p-start
-    part-p-end
-    is-named-requires
-    returns-5
-    sub-is-checked
-    sub-is-checked-2
-    part-is-checked-start
-    part-is-checked-end
-    is-checked-requires
-    returns-6
+    sub-read-payload
+    sub-read-payload-2
+    part-read-payload-start
+    part-read-payload-end
     read-payload-requires
-    returns-7)
+    returns-2)

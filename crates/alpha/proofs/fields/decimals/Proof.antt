@@ -32,7 +32,7 @@ shared-slice-read-decimal-at c = omega arith
 decimal-at-requires : tie.Need-decimal-at-requires Inv-loop μ-loop
 decimal-at-requires c κs =
     let start = c .before .before .before .before .before in
-    leb-true _ 9 (each (λ w. leb w 9) (now (start .args .widths)) (c .before .before .loop .k) (start .pre .1) (omega arith))
+    leb-true _ 9 (each (λ w. leb w 9) 0 (now (start .args .widths)) (c .before .before .loop .k) (start .pre .1) (omega arith))
 
 returns : tie.Need-returns Inv-loop μ-loop
 returns c =

@@ -1,0 +1,18 @@
+-- `alpha::full::is_full` meets its contract: the length picks the test, and where none is picked nothing is claimed.
+-- Assumes nothing.
+use mathlib.Core.Bool.{false≢true}
+use borrow.Author.Needs.{needs}
+use Rattle.alpha.proofs.full.is_full.Statement.{statement}
+use Rattle.alpha.proofs.full.is_full.Tie as tie
+
+is-full02-requires : tie.Need-is-full02-requires
+is-full02-requires c κs = search needs
+
+returns : tie.Need-returns
+returns c = search needs
+
+returns-2 : tie.Need-returns-2
+returns-2 c e = absurd (false≢true e)
+
+pub is-full-spec : {M : Type 1} → statement M
+is-full-spec = tie.close (tie.spec is-full02-requires returns returns-2)

@@ -1,0 +1,11 @@
+-- Bytes that stand between two rows of bounds.
+use Prim.Native.Nat.{ℕ}
+use mathlib.Core.Bool.{Bool, true, _&&_}
+use mathlib.Core.List.{List, [], _∷_}
+use lib.ListN.{drop}
+use Rattle.rules.specs.Bytes.{between, first}
+
+-- each byte is from the least to the most for its place
+unfoldable pub inBounds : List ℕ → List ℕ → List ℕ → Bool
+inBounds least most [] = true
+inBounds least most (b ∷ bs) = between (first least) (first most) b && inBounds (drop 1 least) (drop 1 most) bs

@@ -1,0 +1,45 @@
+// Payloads in the writer's form, each field with all its bytes: one pass over bounds tells that they
+// are good. Of any other payload nothing is said here, and its fields are read.
+ghost use mathlib.Core.Path.{_≡_};
+ghost use mathlib.Core.Bool.{true};
+ghost use lib.ListN.{length};
+ghost use Rattle.alpha.specs.Bounds.{inBounds};
+ghost use Rattle.alpha.specs.Payloads.{isGoodPayload};
+
+// Whether a payload is of the writer's form and good.
+pub(crate) fn is_full(p: &[u8]) -> bool
+    ensures { λ r. ⌜ (r ≡ true → isGoodPayload (now (p .entry)) ≡ true) ⌝ }
+{
+    match p.len() {
+        57 => is_full02(p),
+        _ => false,
+    }
+}
+
+// Sentence 02: digits between its commas, a grid voltage of at most 255, a band from 1, and key 0
+// or 1. The voltage is weighed as its three bytes: 255 and 111 times the byte of the digit 0.
+fn is_full02(p: &[u8]) -> bool
+    requires { ⌜ length (now p) ≡ 57 ⌝ }
+    ensures { λ r. ⌜ (r ≡ true → isGoodPayload (now (p .entry)) ≡ true) ⌝ }
+{
+    let grid = leaves::wide(p[35]) * 100 + leaves::wide(p[36]) * 10 + leaves::wide(p[37]);
+    within(p, b"APA02,00000,000,0000,0000,0000,000,000,000,0,0,00,0,00000", b"APA02,99999,999,9999,9999,9999,999,999,999,9,9,99,9,99999")
+        & (grid <= 5583)
+        & (p[43] != b'0')
+        & (p[50] <= b'1')
+}
+
+// Whether each byte is from the least to the most for its place. The loop runs to the end, so that
+// many bytes are compared at once.
+fn within(d: &[u8], least: &[u8], most: &[u8]) -> bool
+    requires { ⌜ (length (now least) ≡ length (now d)) × (length (now most) ≡ length (now d)) ⌝ }
+    ensures { λ r. ⌜ r ≡ inBounds (now (least .entry)) (now (most .entry)) (now (d .entry)) ⌝ }
+{
+    let mut good = true;
+    let mut i = 0;
+    while i < d.len() {
+        good = good & (least[i] <= d[i]) & (d[i] <= most[i]);
+        i += 1;
+    }
+    good
+}
