@@ -7,10 +7,9 @@ use leaves::two_digits;
 use rules::Frame;
 use rules::Reading;
 use rules::Status;
-use spe_rules::is_ack_code;
-use spe_rules::is_code;
 use spe_rules::status_in_range;
-use spe_tests::is_packet;
+use spe_tests::is_ack;
+use spe_tests::is_command;
 use spe_tests::is_report;
 ghost use mathlib.Core.Path.{_≡_};
 ghost use lib.ListN.{length};
@@ -190,31 +189,22 @@ fn read_report(s: &[u8]) -> Reading
     Reading::Good(Frame::Status(status))
 }
 
-// A frame of family 1, from the amplifier: an acknowledgement, which is six bytes, or a report; or
-// refusal 8.
+// A frame of family 1, from the amplifier: an acknowledgement, or a report; or refusal 8.
 pub fn read_reply(s: &[u8]) -> Reading
     ensures { λ r. ⌜ r ≡ readFamily1 (now (s .entry)) ⌝ }
 {
-    if s.len() != 6 {
-        return read_report(s);
+    if is_ack(s) {
+        return Reading::Good(Frame::Ack(s[4]));
     }
-    let c = s[4];
-    if !(is_packet(0xAA, s) & is_ack_code(c)) {
-        return Reading::Refused(8);
-    }
-    Reading::Good(Frame::Ack(c))
+    read_report(s)
 }
 
 // A frame of family 3, to the amplifier: a command, or refusal 8.
 pub fn read_command(s: &[u8]) -> Reading
     ensures { λ r. ⌜ r ≡ readFamily3 (now (s .entry)) ⌝ }
 {
-    if s.len() != 6 {
-        return Reading::Refused(8);
+    if is_command(s) {
+        return Reading::Good(Frame::Command(s[4]));
     }
-    let c = s[4];
-    if !(is_packet(0x55, s) & is_code(c)) {
-        return Reading::Refused(8);
-    }
-    Reading::Good(Frame::Command(c))
+    Reading::Refused(8)
 }

@@ -1,14 +1,15 @@
--- When bytes are a packet or a report's frame: by their length.
+-- When bytes are a packet, an acknowledgement, a command or a report's frame: by their length.
 -- Assumes nothing.
 use Prim.Native.Nat.{ℕ, _%_, _/_}
 use mathlib.Core.Path.{_≡_, ap}
-use mathlib.Core.Bool.{Bool, true, false}
+use mathlib.Core.Bool.{Bool, true, false, _&&_}
 use mathlib.Core.List.{List, [], _∷_}
+use native.Mathlib.Decide.{ℕ-discrete}
 use native.Mathlib.Omega.{arith}
 use lib.ListN.{length, drop, getD, length-append, length-take, length-drop}
 use lib.Seq.{length-take-le}
 use Rattle.rules.specs.Bytes.{same, total}
-use Rattle.rules.specs.Codes.{isPacket, packet}
+use Rattle.rules.specs.Codes.{isPacket, packet, isCode, isAckCode, isAck, isCommand}
 use Rattle.rules.specs.Status.{statusFrame, dataOf}
 use Rattle.laws.proofs.Bytes.{same-eq}
 use Rattle.laws.proofs.Lists.{lengths-differ}
@@ -16,6 +17,22 @@ use Rattle.laws.proofs.Lists.{lengths-differ}
 -- a packet is six bytes
 pub not-packet : (mark : ℕ) (s : List ℕ) → (length s ≡ 6 → ⊥) → isPacket mark s ≡ false
 not-packet mark s h = lengths-differ s (packet mark (getD s 4 0)) h
+
+pub not-ack : (s : List ℕ) → (length s ≡ 6 → ⊥) → isAck s ≡ false
+unfolding isAck
+not-ack s h = ap (λ (b : Bool). b && isAckCode (getD s 4 0)) (not-packet 0xAA s h)
+
+pub not-command : (s : List ℕ) → (length s ≡ 6 → ⊥) → isCommand s ≡ false
+unfolding isCommand
+not-command s h = ap (λ (b : Bool). b && isCode (getD s 4 0)) (not-packet 0x55 s h)
+
+-- so a test that only six bytes pass has found six
+pub six-bytes : (test : Bool) (s : List ℕ) → ((length s ≡ 6 → ⊥) → test ≡ false) → test ≡ true → length s ≡ 6
+six-bytes test s never e =
+    elim (ℕ-discrete (length s) 6) [
+      | yes six ↦ six
+      | no other ↦ let z : _≡_ {A = ℕ} 0 1 = cc (never other) in absurd (omega arith)
+    ]
 
 abbrev pub framed : List ℕ → Bool
 framed s = same s (statusFrame (dataOf s))

@@ -1,13 +1,16 @@
-// Tests of an SPE frame as a whole, which read no field: whether it is a packet, a report's frame,
-// or a good status report. The last is for loops over many frames. Its helpers leave no loop early and
-// join their tests by `&` and `|`, so that the compiler tests many bytes at once.
+// Tests of an SPE frame as a whole, which read no field: whether it is a packet, an acknowledgement, a
+// command, a report's frame, or a good status report. The last is for loops over many frames. Its
+// helpers leave no loop early and join their tests by `&` and `|`, so that the compiler tests many
+// bytes at once.
 use leaves::sum;
 use leaves::text;
 use leaves::wide;
+use spe_rules::is_ack_code;
+use spe_rules::is_code;
 ghost use mathlib.Core.Path.{_≡_};
 ghost use lib.ListN.{length};
 ghost use Rattle.rules.specs.Bytes.{ascii, oneOf, same};
-ghost use Rattle.rules.specs.Codes.{isPacket};
+ghost use Rattle.rules.specs.Codes.{isPacket, isAck, isCommand};
 ghost use Rattle.rules.specs.Status.{statusFrame, dataOf, isStatus};
 ghost use Rattle.spe_tests.specs.Tests.{allWithin, allFollow, lettersGood, limitsGood};
 
@@ -20,6 +23,26 @@ pub fn is_packet(mark: u8, s: &[u8]) -> bool
     }
     let c = s[4];
     (s[0] == mark) & (s[1] == mark) & (s[2] == mark) & (s[3] == 0x01) & (s[5] == c)
+}
+
+// Whether the bytes are an acknowledgement.
+pub fn is_ack(s: &[u8]) -> bool
+    ensures { λ r. ⌜ r ≡ isAck (now (s .entry)) ⌝ }
+{
+    if s.len() != 6 {
+        return false;
+    }
+    is_packet(0xAA, s) & is_ack_code(s[4])
+}
+
+// Whether the bytes are a command.
+pub fn is_command(s: &[u8]) -> bool
+    ensures { λ r. ⌜ r ≡ isCommand (now (s .entry)) ⌝ }
+{
+    if s.len() != 6 {
+        return false;
+    }
+    is_packet(0x55, s) & is_code(s[4])
 }
 
 // Whether the bytes are a report's frame around their own data: marks, count, sums, 0D 0A.
