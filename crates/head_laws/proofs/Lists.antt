@@ -1,12 +1,12 @@
--- Laws of lists of bytes, place by place: tests, and the front of a list.
+-- Laws of lists of bytes, place by place: tests, the front of a list, and its rest.
 -- Assumes nothing.
-use Prim.Native.Nat.{ℕ, zero, suc, _<_}
+use Prim.Native.Nat.{ℕ, zero, suc, _-_, _<_}
 use mathlib.Core.Path.{_≡_, refl}
 use mathlib.Core.Bool.{Bool, true, false, and-false}
 use mathlib.Core.List.{List, [], _∷_, _++_}
 use native.Mathlib.Omega.{arith}
-use lib.ListN.{length, take, drop, getD, length-take, take-append-drop}
-use lib.Seq.{getD-take}
+use lib.ListN.{length, take, drop, getD, length-take, length-drop, take-append-drop}
+use lib.Seq.{getD-take, take-all}
 use Rattle.rules.specs.Bytes.{every}
 use Rattle.laws.proofs.Bytes.{both-pass}
 
@@ -28,3 +28,7 @@ front-at bs m i p = getD-take m bs i 0 (omega (arith, length-take m bs))
 
 pub front-and-rest : (bs : List ℕ) (m : ℕ) (front : List ℕ) → take m bs ≡ front → bs ≡ front ++ drop m bs
 front-and-rest bs m front e = rw (← e, take-append-drop)
+
+-- a part from k on that reaches to the end is all that is behind k
+pub whole-rest : (bs : List ℕ) (k : ℕ) → take (length bs - k) (drop k bs) ≡ drop k bs
+whole-rest bs k = take-all (length bs - k) (drop k bs) (omega (arith, length-drop k bs))

@@ -35,18 +35,26 @@ pub run-up-to : (first : ℕ) (p : List ℕ) (b : ℕ) (bs : List ℕ) → every
     → run (first ∷ p ++ b ∷ bs) ≡ length p
 run-up-to first p b bs good other = omega (arith, run-behind p (b ∷ bs) good, run-stops b bs other)
 
+-- Where k bytes from n on are payload bytes, the run from n on is those and the run behind them.
+pub run-from : (bs : List ℕ) (n k : ℕ) → n + k ≤ length bs → every isPayloadByte (take k (drop n bs)) ≡ true
+    → length (payloadRun (drop n bs)) ≡ k + length (payloadRun (drop (n + k) bs))
+run-from bs n k there good =
+    let t = drop n bs in
+    let size : length (take k t) ≡ k = omega (arith, length-take k t, length-drop n bs) in
+    ap (λ l. length (payloadRun l)) (sym (take-append-drop k t))
+    ∙ run-behind (take k t) (drop k t) good
+    ∙ ap (λ m. m + length (payloadRun (drop k t))) size
+    ∙ ap (λ l. k + length (payloadRun l)) (drop-drop k n bs)
+
 -- The first r bytes behind the first one are payload bytes: so the run has at least those,
 module _ (bs : List ℕ) (r : ℕ) (there : r < length bs) (payload : (k : ℕ) → k < r → isPayloadByte (getD bs (k + 1) 0) ≡ true) where
   run-over : run bs ≡ r + length (payloadRun (drop (r + 1) bs))
   run-over =
       let t = drop 1 bs in
-      let size : length (take r t) ≡ r = omega (arith, length-take r t, length-drop 1 bs) in
       let at : (i : ℕ) → getD t i 0 ≡ getD bs (i + 1) 0 = λ i. getD-drop 1 bs i 0 ∙ ap (λ k. getD bs k 0) (add-comm 1 i) in
+      let size = length-take r t in
       let front = every-at isPayloadByte (take r t) (λ i h. rw (front-at t r i h, at i) (payload i (omega arith))) in
-      ap (λ l. length (payloadRun l)) (sym (take-append-drop r t))
-      ∙ run-behind (take r t) (drop r t) front
-      ∙ ap (λ n. n + length (payloadRun (drop r t))) size
-      ∙ ap (λ l. r + length (payloadRun l)) (drop-drop r 1 bs ∙ ap (λ k. drop k bs) (add-comm 1 r))
+      run-from bs 1 r (omega arith) front ∙ ap (λ k. r + length (payloadRun (drop k bs))) (add-comm 1 r)
 
   pub run-at-least : r ≤ run bs
   run-at-least = omega (arith, run-over)
@@ -63,7 +71,7 @@ module _ (bs : List ℕ) (r : ℕ) (there : r < length bs) (payload : (k : ℕ) 
       ]
 
 -- The run ends within the list; and in a front of the list where that ends, if not before.
-run-within : (bs : List ℕ) → length (payloadRun bs) ≤ length bs
+pub run-within : (bs : List ℕ) → length (payloadRun bs) ≤ length bs
 unfolding payloadRun
 run-within [] = omega arith
 run-within (b ∷ bs) = by-byte (isPayloadByte b) (run-within bs)
@@ -75,7 +83,7 @@ run-within (b ∷ bs) = by-byte (isPayloadByte b) (run-within bs)
 pub run-inside : (bs : List ℕ) → 0 < length bs → run bs < length bs
 run-inside bs some = omega (arith, run-within (drop 1 bs), length-drop 1 bs)
 
-run-take : (m : ℕ) (bs : List ℕ) → length (payloadRun (take m bs)) ≡ min m (length (payloadRun bs))
+pub run-take : (m : ℕ) (bs : List ℕ) → length (payloadRun (take m bs)) ≡ min m (length (payloadRun bs))
 unfolding payloadRun
 run-take zero bs = omega arith
 run-take (suc m) [] = omega arith

@@ -1,7 +1,7 @@
 -- `heads::bytes_needed` meets its contract: its two tests are those of the rule.
 -- Assumes nothing.
 use mathlib.Core.Bool.{Bool, cond}
-use mathlib.Core.Path.{ap, sym, _∙_}
+use mathlib.Core.Path.{ap, sym}
 use borrow.Author.Tests.{eq-eqb, ne-eqb}
 use Rattle.heads.proofs.bytes_needed.Statement.{statement}
 use Rattle.heads.proofs.bytes_needed.Tie as tie

@@ -1,13 +1,13 @@
 -- `heads::examine_packet` meets its contract: its tests go along the rules for an SPE start, byte by byte.
 -- Assumes nothing.
-use Prim.Native.Nat.{ℕ, _+_, _<_}
-use mathlib.Core.Path.{_≡_, sym, ap, _∙_}
+use Prim.Native.Nat.{ℕ, _+_}
+use mathlib.Core.Path.{_≡_, sym, _∙_}
 use mathlib.Core.List.{List}
 use native.Mathlib.Omega.{arith}
 use borrow.Author.Count.{below-none, below-more}
 use borrow.Author.Needs.{needs as kit}
-use lib.ListN.{length, getD}
-use Rattle.stream_rules.specs.Heads.{markOf, needs}
+use lib.ListN.{getD}
+use Rattle.stream_rules.specs.Heads.{markOf}
 use Rattle.head_laws.proofs.PacketStarts.{Marks, no-mark, no-count, bytes-missing, all-there}
 use Rattle.heads.proofs.Starts.{undecided, bad-start, by-whole, few}
 use Rattle.heads.proofs.examine_packet.Statement.{statement}

@@ -1,14 +1,14 @@
 -- `heads::examine_sentence` meets its contract: its tests go along the rules for a start of a sentence. A count that stops
 -- at 129 tells as much of the payload bytes as the rules ask.
 -- Assumes nothing.
-use Prim.Native.Nat.{ℕ, min, _+_, _-_, _≤_, _<_}
-use mathlib.Core.Path.{_≡_, sym, ap, _∙_}
+use Prim.Native.Nat.{ℕ, min}
+use mathlib.Core.Path.{_≡_, ap, _∙_}
 use mathlib.Core.List.{List}
 use native.Mathlib.Omega.{arith}
 use borrow.Author.Needs.{needs}
-use lib.ListN.{length, take, drop, getD, length-drop}
-use lib.Seq.{take-all}
+use lib.ListN.{length}
 use Rattle.stream_rules.specs.Heads.{payloadRun}
+use Rattle.head_laws.proofs.Lists.{whole-rest}
 use Rattle.head_laws.proofs.Runs.{run}
 use Rattle.head_laws.proofs.SentenceStarts.{nothing, no-dollar, too-long, payload-open, no-star, digits-missing, all-there}
 use Rattle.heads.proofs.Starts.{undecided, bad-start, by-whole}
@@ -20,7 +20,7 @@ counted : (c : tie.After-payload-bytes) → c .payload-bytes .result ≡ min (ru
 counted c =
     let bytes = c .before .before .before .before .before .before .args .s .now in
     c .payload-bytes .ensures
-    ∙ ap (λ (l : List ℕ). min (length (payloadRun l)) 129) (take-all (length bytes - 1) (drop 1 bytes) (omega (arith, length-drop 1 bytes)))
+    ∙ ap (λ (l : List ℕ). min (length (payloadRun l)) 129) (whole-rest bytes 1)
 
 -- where it is at most 128, it is the run itself
 exact : (c : tie.Else3) → run (c .before .before .before .before .before .before .before .args .s .now) ≡ c .before .payload-bytes .result

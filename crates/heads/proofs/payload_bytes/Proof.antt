@@ -1,92 +1,28 @@
--- `heads::payload_bytes` meets its contract. The loop's invariant: n payload bytes have been passed, so the run is n bytes
--- and the run of what is left. The measure is what is left of 129.
+-- `heads::payload_bytes` meets its contract: the run of the first 129 bytes is the run, counted to 129.
 -- Assumes nothing.
-use Prim.Native.Nat.{ℕ, suc, min, _+_, _-_, _≤_, _<_}
-use mathlib.Core.Path.{_≡_, refl, sym, ap, _∙_}
-use mathlib.Core.Bool.{Bool, true, false, cond, not}
-use mathlib.Core.List.{List, [], _∷_}
+use Prim.Native.Nat.{ℕ}
+use mathlib.Core.Path.{ap, _∙_}
+use mathlib.Core.List.{List}
 use native.Mathlib.Omega.{arith}
 use borrow.Author.Needs.{needs}
-use borrow.Author.Tests.{not-true, not-false}
-use lib.ListN.{length, drop, getD}
-use Rattle.rules.specs.Sentences.{isPayloadByte}
+use lib.ListN.{length}
 use Rattle.stream_rules.specs.Heads.{payloadRun}
-use Rattle.leaves.proofs.Steps.{at, done}
+use Rattle.head_laws.proofs.Runs.{run-take}
 use Rattle.heads.proofs.payload_bytes.Statement.{statement}
 use Rattle.heads.proofs.payload_bytes.Tie as tie
 
-module _ (p : List ℕ) (n : ℕ) where
-  over : length p ≤ n → length (payloadRun (drop n p)) ≡ 0
-  unfolding payloadRun
-  over h = ap (λ (l : List ℕ). length (payloadRun l)) (done p n h)
+text-requires : tie.Need-text-requires
+text-requires c κs = search needs
 
-  module _ (h : n < length p) where
-    one-more : isPayloadByte (getD p n 0) ≡ true → length (payloadRun (drop n p)) ≡ suc (length (payloadRun (drop (n + 1) p)))
-    unfolding payloadRun
-    one-more t =
-        ap (λ (l : List ℕ). length (payloadRun l)) (at p n h)
-        ∙ ap (λ (b : Bool). length (cond b (getD p n 0 ∷ payloadRun (drop (n + 1) p)) [])) t
+run-by-blocks-requires : tie.Need-run-by-blocks-requires
+run-by-blocks-requires c κs = search needs
 
-    no-more : isPayloadByte (getD p n 0) ≡ false → length (payloadRun (drop n p)) ≡ 0
-    unfolding payloadRun
-    no-more t =
-        ap (λ (l : List ℕ). length (payloadRun l)) (at p n h)
-        ∙ ap (λ (b : Bool). length (cond b (getD p n 0 ∷ payloadRun (drop (n + 1) p)) [])) t
-
-abbrev Inv-loop : tie.InvT-loop
-Inv-loop p n₀ n = (n ≤ 129) × (length (payloadRun p) ≡ n + length (payloadRun (drop n p)))
-
-abbrev μ-loop : tie.MeasureT-loop
-μ-loop p n₀ n = 129 - n
-
-loop-holds : tie.Need-loop-holds Inv-loop μ-loop
-loop-holds c = omega arith
-
-returns : tie.Need-returns Inv-loop μ-loop
+returns : tie.Need-returns
 returns c =
-    let bytes = c .before .before .before .before .args .p .now in
-    omega (arith, over bytes (c .before .before .loop .n) (c .if1 .taken))
-
-shared-slice-read-payload-byte : tie.Need-shared-slice-read-payload-byte Inv-loop μ-loop
-shared-slice-read-payload-byte c = omega arith
-
-payload-byte-requires : tie.Need-payload-byte-requires Inv-loop μ-loop
-payload-byte-requires c κs = search needs
-
-returns-2 : tie.Need-returns-2 Inv-loop μ-loop
-returns-2 c =
-    let turn = c .before .before .before .before in
-    let bytes = turn .before .before .before .args .p .now in
-    omega (arith, no-more bytes (turn .before .loop .n) (omega arith) (sym (c .before .payload-byte .ensures) ∙ not-true _ (c .if2 .taken)))
-
-add-n : tie.Need-add-n Inv-loop μ-loop
-add-n c = omega arith
-
-loop-less : tie.Need-loop-less Inv-loop μ-loop
-loop-less c = omega arith
-
-loop-again : tie.Need-loop-again Inv-loop μ-loop
-loop-again c =
-    let turn = c .before .before .before .before in
-    let bytes = turn .before .before .before .args .p .now in
-    let more = one-more bytes (turn .before .loop .n) (omega arith) (sym (c .before .payload-byte .ensures) ∙ not-false _ (c .if2 .left)) in
-    (omega arith, omega (arith, more))
-
-returns-3 : tie.Need-returns-3 Inv-loop μ-loop
-returns-3 c = omega arith
+    let bytes = c .before .before .before .args .p .now in
+    c .run-by-blocks .ensures
+    ∙ ap (λ (l : List ℕ). length (payloadRun l)) (c .before .text .ensures .content)
+    ∙ omega (arith, run-take 129 bytes)
 
 pub payload-bytes-spec : {M : Type 1} → statement M
-payload-bytes-spec =
-    tie.close
-    (tie.spec
-    Inv-loop
-    μ-loop
-    loop-holds
-    returns
-    shared-slice-read-payload-byte
-    payload-byte-requires
-    returns-2
-    add-n
-    loop-less
-    loop-again
-    returns-3)
+payload-bytes-spec = tie.close (tie.spec text-requires run-by-blocks-requires returns)

@@ -8,9 +8,10 @@ use mathlib.Core.List.{List}
 use native.Mathlib.Decide.{ℕ-discrete}
 use native.Mathlib.Omega.{arith}
 use borrow.Author.Needs.{needs}
-use lib.ListN.{length, take, drop, getD, length-drop}
-use lib.Seq.{take-all, drop-drop, getD-drop}
+use lib.ListN.{length, drop, getD}
+use lib.Seq.{drop-drop, getD-drop}
 use Rattle.stream_rules.specs.Heads.{payloadRun, head}
+use Rattle.head_laws.proofs.Lists.{whole-rest}
 use Rattle.seek_laws.proofs.Starts.{NotGood}
 use Rattle.seek_laws.proofs.Walks.{Passed, nothing-passed, passes}
 use Rattle.places.specs.Places.{sizeAt}
@@ -46,17 +47,13 @@ module _ (s : List ℕ) (from at : ℕ) (passed : Passed (head 2) s from at) whe
             | no later ↦ rw (← drop-drop j at s) (in-the-run (drop at s) j (omega arith) (omega arith))
           ]
 
--- the bytes from a place on, as a call was lent them
-from-there : (s : List ℕ) (k : ℕ) → take (length s - k) (drop k s) ≡ drop k s
-from-there s k = take-all (length s - k) (drop k s) (omega (arith, length-drop k s))
-
 -- the run behind `at`
 counted : (c : tie.After-payload-bytes Inv-loop μ-loop)
     → c .payload-bytes .result ≡ min (length (payloadRun (drop 1 (drop (c .before .before .before .before .before .loop .at) (c .before .before .before .before .before .before .before .args .s .now))))) 129
 counted c =
     let s = c .before .before .before .before .before .before .before .args .s .now in
     let at = c .before .before .before .before .before .loop .at in
-    c .payload-bytes .ensures ∙ ap (λ (l : List ℕ). min (length (payloadRun l)) 129) (from-there s (at + 1) ∙ sym (drop-drop 1 at s))
+    c .payload-bytes .ensures ∙ ap (λ (l : List ℕ). min (length (payloadRun l)) 129) (whole-rest s (at + 1) ∙ sym (drop-drop 1 at s))
 
 -- what stands at `at`
 module _ (c : tie.After-sentence-size Inv-loop μ-loop) where
@@ -67,7 +64,7 @@ module _ (c : tie.After-sentence-size Inv-loop μ-loop) where
   at = c .before .before .before .before .before .before .before .loop .at
 
   size : c .sentence-size .result ≡ sizeAt 2 (drop at bytes)
-  size = c .sentence-size .ensures ∙ ap (sizeAt 2) (from-there bytes at)
+  size = c .sentence-size .ensures ∙ ap (sizeAt 2) (whole-rest bytes at)
 
 loop-holds : tie.Need-loop-holds Inv-loop μ-loop
 loop-holds c = nothing-passed _ _ _
@@ -114,7 +111,7 @@ part-sentence-size-end c = omega arith
 sentence-size-requires : tie.Need-sentence-size-requires Inv-loop μ-loop
 sentence-size-requires c κs =
     counted (c .before)
-    ∙ ap (λ (l : List ℕ). min (length (payloadRun (drop 1 l))) 129) (sym (from-there (c .before .before .before .before .before .before .before .before .args .s .now) (c .before .before .before .before .before .before .loop .at)))
+    ∙ ap (λ (l : List ℕ). min (length (payloadRun (drop 1 l))) 129) (sym (whole-rest (c .before .before .before .before .before .before .before .before .args .s .now) (c .before .before .before .before .before .before .loop .at)))
 
 returns : tie.Need-returns Inv-loop μ-loop
 returns c =
