@@ -16,7 +16,7 @@ use Rattle.leaves.proofs.Steps.{at as from-place}
 use Rattle.alpha.specs.Bounds.{inBounds}
 
 -- what has one bound only stands there
-pub exact : (name l m bs : List ℕ) → length name ≤ length bs → inBounds (name ++ l) (name ++ m) bs ≡ true
+exact : (name l m bs : List ℕ) → length name ≤ length bs → inBounds (name ++ l) (name ++ m) bs ≡ true
     → (bs ≡ name ++ drop (length name) bs) × (inBounds l m (drop (length name) bs) ≡ true)
 unfolding inBounds
 exact [] l m bs h e = (refl, e)
@@ -47,12 +47,12 @@ endOf a [] = a
 endOf a (w ∷ ws) = endOf (a + 1 + w) ws
 
 -- A row of texts from place a on, of bytes from x to y, with bounds for what is behind it.
-pub record Row (x y : ℕ) (ws l m : List ℕ) (a : ℕ) (p : List ℕ) : Type 0 where
-  pub whole : drop a p ≡ commas (cut a ws p) ++ drop (endOf a ws) p
-  pub texts : every (every (between x y)) (cut a ws p) ≡ true
-  pub rest : inBounds l m (drop (endOf a ws) p) ≡ true
+record Row (x y : ℕ) (ws l m : List ℕ) (a : ℕ) (p : List ℕ) : Type 0 where
+  whole : drop a p ≡ commas (cut a ws p) ++ drop (endOf a ws) p
+  texts : every (every (between x y)) (cut a ws p) ≡ true
+  rest : inBounds l m (drop (endOf a ws) p) ≡ true
 
-pub row : (x y : ℕ) (ws l m : List ℕ) (a : ℕ) (p : List ℕ) → a + (length ws + total ws) ≤ length p
+row : (x y : ℕ) (ws l m : List ℕ) (a : ℕ) (p : List ℕ) → a + (length ws + total ws) ≤ length p
     → inBounds (rowOf x ws ++ l) (rowOf y ws ++ m) (drop a p) ≡ true → Row x y ws l m a p
 unfolding inBounds every commas total rowOf
 row x y [] l m a p h e = record { whole = refl; texts = refl; rest = e }
@@ -71,4 +71,21 @@ row x y (w ∷ ws) l m a p h e =
           (sym (take-append-drop w (drop (a + 1) p)) ∙ ap (λ (l : List ℕ). text ++ l) (drop-drop w (a + 1) p ∙ behind .whole) ∙ sym (append-assoc text _ _));
       texts = both-pass (every (between x y) text) _ (t .0) (behind .texts);
       rest = behind .rest;
+    }
+
+-- A name, and then such a row.
+pub record Formed (x y : ℕ) (name ws l m p : List ℕ) : Type 0 where
+  pub whole : p ≡ name ++ (commas (cut (length name) ws p) ++ drop (endOf (length name) ws) p)
+  pub texts : every (every (between x y)) (cut (length name) ws p) ≡ true
+  pub rest : inBounds l m (drop (endOf (length name) ws) p) ≡ true
+
+pub formed : (x y : ℕ) (name ws l m p : List ℕ) → length name + (length ws + total ws) ≤ length p
+    → inBounds (name ++ (rowOf x ws ++ l)) (name ++ (rowOf y ws ++ m)) p ≡ true → Formed x y name ws l m p
+formed x y name ws l m p h e =
+    let named = exact name (rowOf x ws ++ l) (rowOf y ws ++ m) p (omega arith) e in
+    let r = row x y ws l m (length name) p h (named .1) in
+    record {
+      whole = named .0 ∙ ap (λ (q : List ℕ). name ++ q) (r .whole);
+      texts = r .texts;
+      rest = r .rest;
     }

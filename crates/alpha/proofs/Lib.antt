@@ -1,5 +1,5 @@
--- Laws of a field's text, of a row of fields, of a temperature, of the records that rows make, of a payload's tests, and
--- of the frame around a payload.
+-- Laws of a field's text, of a row of fields, of a temperature, of the records that rows make, of a payload's tests, of
+-- the frame around a payload, and of payloads in the writer's form.
 pub mod Texts
 pub mod Rows
 pub mod Temperatures
@@ -8,3 +8,6 @@ pub mod Payloads
 pub mod Frames
 pub mod Bounds
 pub mod FullWidth
+pub mod Full02
+pub mod Full03
+pub mod Full05

@@ -3,7 +3,8 @@
 ghost use mathlib.Core.Path.{_≡_};
 ghost use mathlib.Core.Bool.{true};
 ghost use lib.ListN.{length};
-ghost use Rattle.alpha.specs.Bounds.{inBounds};
+ghost use Rattle.rules.specs.Bytes.{every};
+ghost use Rattle.alpha.specs.Bounds.{inBounds, outsideGap};
 ghost use Rattle.alpha.specs.Payloads.{isGoodPayload};
 
 // Whether a payload is of the writer's form and good.
@@ -12,6 +13,8 @@ pub(crate) fn is_full(p: &[u8]) -> bool
 {
     match p.len() {
         57 => is_full02(p),
+        43 => is_full03(p),
+        26 => is_full05(p),
         _ => false,
     }
 }
@@ -23,10 +26,56 @@ fn is_full02(p: &[u8]) -> bool
     ensures { λ r. ⌜ (r ≡ true → isGoodPayload (now (p .entry)) ≡ true) ⌝ }
 {
     let grid = leaves::wide(p[35]) * 100 + leaves::wide(p[36]) * 10 + leaves::wide(p[37]);
-    within(p, b"APA02,00000,000,0000,0000,0000,000,000,000,0,0,00,0,00000", b"APA02,99999,999,9999,9999,9999,999,999,999,9,9,99,9,99999")
+    within(
+        p,
+        b"APA02,00000,000,0000,0000,0000,000,000,000,0,0,00,0,00000",
+        b"APA02,99999,999,9999,9999,9999,999,999,999,9,9,99,9,99999",
+    )
         & (grid <= 5583)
         & (p[43] != b'0')
         & (p[50] <= b'1')
+}
+
+// Sentence 03: digits between its commas, a mains tap from 1 to 5, and a temperature with three
+// digits before its point. A comma stands between the two signs.
+fn is_full03(p: &[u8]) -> bool
+    requires { ⌜ length (now p) ≡ 43 ⌝ }
+    ensures { λ r. ⌜ (r ≡ true → isGoodPayload (now (p .entry)) ≡ true) ⌝ }
+{
+    within(
+        p,
+        b"APA03,000,000,000,000,000,0000,000,0,+000.0",
+        b"APA03,999,999,999,999,999,9999,999,9,-999.9",
+    )
+        & (p[35] != b'0')
+        & (p[35] <= b'5')
+        & (p[37] != b',')
+}
+
+// Sentence 05: two hexadecimal digits between its commas.
+fn is_full05(p: &[u8]) -> bool
+    requires { ⌜ length (now p) ≡ 26 ⌝ }
+    ensures { λ r. ⌜ (r ≡ true → isGoodPayload (now (p .entry)) ≡ true) ⌝ }
+{
+    within(
+        p,
+        b"APA05,00,00,00,00,00,00,00",
+        b"APA05,FF,FF,FF,FF,FF,FF,FF",
+    )
+        & no_gap(p)
+}
+
+// Whether no byte stands between the digits and the letters.
+fn no_gap(p: &[u8]) -> bool
+    ensures { λ r. ⌜ r ≡ every outsideGap (now (p .entry)) ⌝ }
+{
+    let mut good = true;
+    let mut i = 0;
+    while i < p.len() {
+        good = good & ((p[i] <= b'9') | (b'A' <= p[i]));
+        i += 1;
+    }
+    good
 }
 
 // Whether each byte is from the least to the most for its place. The loop runs to the end, so that

@@ -11,7 +11,7 @@ use borrow.Author.Tests.{eqb-false, leb-true, not-true}
 use Rattle.rules.specs.Sentences.{commas}
 use Rattle.laws.proofs.Bytes.{both}
 use Rattle.alpha.proofs.Bounds.{rowOf}
-use Rattle.alpha.proofs.FullWidth.{full02}
+use Rattle.alpha.proofs.Full02.{full02}
 use Rattle.alpha.proofs.full.is_full02.Statement.{statement}
 use Rattle.alpha.proofs.full.is_full02.Tie as tie
 
