@@ -1,18 +1,18 @@
 -- Sentence 02 in the writer's form: digits between its commas, and what its rules ask of three fields besides.
 -- Assumes nothing.
 use Prim.Native.Nat.{ℕ, _+_, _*_, _≤_}
-use mathlib.Core.Path.{_≡_, refl, _∙_}
-use mathlib.Core.Bool.{true}
+use mathlib.Core.Path.{_≡_, refl, sym, _∙_}
+use mathlib.Core.Bool.{Bool, true, _&&_, not}
 use mathlib.Core.List.{List, [], _∷_, _++_, append-nil}
 use native.Mathlib.Omega.{arith}
-use lib.Dec.{lit<}
+use lib.Dec.{eqb, leb, lit<}
 use lib.ListN.{length, getD, drop-of-length-le}
-use borrow.Author.Tests.{le-leb}
+use borrow.Author.Tests.{le-leb, leb-true, eqb-false, not-true}
 use Rattle.rules.specs.Bytes.{ascii, part, every, total}
 use Rattle.rules.specs.Numbers.{isDigit, decimalFrom, decimal, withZeros}
 use Rattle.rules.specs.Status.{cut}
 use Rattle.rules.specs.Sentences.{areDecimals, widths02, numbers02, inRange02, is02, sentence02}
-use Rattle.laws.proofs.Bytes.{tests, both-pass, between-bounds, bounds-between, every-weaker}
+use Rattle.laws.proofs.Bytes.{both, tests, both-pass, between-bounds, bounds-between, every-weaker}
 use Rattle.laws.proofs.Lists.{part-elements}
 use Rattle.laws.proofs.Sentences.{isTextByte, digits-text, payload}
 use Rattle.laws.proofs.SentenceFields.{fields-fit}
@@ -64,8 +64,21 @@ module _ (p : List ℕ) (size : length p ≡ 57)
         let key-in : decimal (part 50 1 p) ≤ 1 = omega arith in
         both-pass _ _ (both-pass _ _ (both-pass _ _ (fields-fit widths02 ts02 fields02) (le-leb _ _ low)) band-in) (le-leb _ _ key-in)
 
-    pub full02 : isGoodPayload p ≡ true
+    good02 : isGoodPayload p ≡ true
     unfolding is02
-    full02 =
+    good02 =
         let clean = every-weaker (every isDigit) (every isTextByte) digits-text ts02 (form02 .texts) in
         known 2 ts02 (lit< tt) clean written02 ∙ rw (as02 2 ts02 refl, fields02, in-range02)
+
+-- The same by the tests, as they are made.
+pub full02 : (p : List ℕ) (good : Bool) (weight : ℕ) → length p ≡ 57
+    → good ≡ inBounds (ascii "APA02" ++ (rowOf 48 widths02 ++ [])) (ascii "APA02" ++ (rowOf 57 widths02 ++ [])) p
+    → weight ≡ getD p 35 0 * 100 + getD p 36 0 * 10 + getD p 37 0
+    → good && leb weight 5583 && not (eqb (getD p 43 0) 48) && leb (getD p 50 0) 49 ≡ true → isGoodPayload p ≡ true
+full02 p good weight size g w e =
+    let f = both (good && leb weight 5583 && not (eqb (getD p 43 0) 48)) (leb (getD p 50 0) 49) e in
+    let h = both (good && leb weight 5583) (not (eqb (getD p 43 0) 48)) (f .0) in
+    let k = both good (leb weight 5583) (h .0) in
+    good02 p size (sym g ∙ k .0) (omega (arith, leb-true weight 5583 (k .1)))
+    (eqb-false (getD p 43 0) 48 (not-true _ (h .1)))
+    (leb-true (getD p 50 0) 49 (f .1))

@@ -1,13 +1,13 @@
 -- Sentence 03 in the writer's form: digits between its commas, then a temperature of six bytes. Assumes nothing.
 use Prim.Native.Nat.{ℕ, _≤_}
 use mathlib.Core.Path.{_≡_, refl, sym, _∙_, ap}
-use mathlib.Core.Bool.{true, false, and-eq-true-iff}
+use mathlib.Core.Bool.{Bool, true, false, _&&_, not, and-eq-true-iff}
 use mathlib.Core.List.{List, [], _∷_, _++_, append-assoc}
 use mathlib.Core.Logic.{⊎-elim}
 use native.Mathlib.Omega.{arith}
-use lib.Dec.{eqb, lit<}
+use lib.Dec.{eqb, leb, lit<}
 use lib.ListN.{length, drop, getD}
-use borrow.Author.Tests.{le-leb, eq-eqb, eqb-false}
+use borrow.Author.Tests.{le-leb, leb-true, eq-eqb, eqb-false, not-true}
 use Rattle.rules.specs.Bytes.{ascii, oneOf, part, between, every, total}
 use Rattle.rules.specs.Numbers.{isDigit, decimal, withZeros}
 use Rattle.rules.specs.Status.{cut}
@@ -113,9 +113,22 @@ module _ (p : List ℕ) (size : length p ≡ 43)
         let tap-in = bounds-between 1 5 (decimal (part 35 1 p)) (omega arith) (omega arith) in
         both-pass _ _ (both-pass _ _ (fields-fit widths03 numbers fields03) tap-in) (le-leb _ _ (temperature-bound heat (heat-good .0)))
 
-    pub full03 : isGoodPayload p ≡ true
+    good03 : isGoodPayload p ≡ true
     unfolding is03 every
-    full03 =
+    good03 =
         let digits = every-weaker (every isDigit) (every isTextByte) digits-text numbers (form03 .texts) in
         let clean = every-append (every isTextByte) numbers (heat ∷ []) digits (every-cons (every isTextByte) heat [] (heat-good .1) refl) in
         known 3 ts03 (lit< tt) clean written03 ∙ rw (as03 3 ts03 refl, fields03, heat-good .0, in-range03)
+
+-- The same by the tests, as they are made.
+pub full03 : (p : List ℕ) (good : Bool) → length p ≡ 43
+    → good ≡ inBounds (ascii "APA03" ++ (rowOf 48 widths03 ++ ascii ",+000.0")) (ascii "APA03" ++ (rowOf 57 widths03 ++ ascii ",-999.9")) p
+    → good && not (eqb (getD p 35 0) 48) && leb (getD p 35 0) 53 && not (eqb (getD p 37 0) 44) ≡ true → isGoodPayload p ≡ true
+full03 p good size g e =
+    let f = both (good && not (eqb (getD p 35 0) 48) && leb (getD p 35 0) 53) (not (eqb (getD p 37 0) 44)) e in
+    let h = both (good && not (eqb (getD p 35 0) 48)) (leb (getD p 35 0) 53) (f .0) in
+    let k = both good (not (eqb (getD p 35 0) 48)) (h .0) in
+    good03 p size (sym g ∙ k .0)
+    (eqb-false (getD p 35 0) 48 (not-true _ (k .1)))
+    (leb-true (getD p 35 0) 53 (h .1))
+    (eqb-false (getD p 37 0) 44 (not-true _ (f .1)))

@@ -1,15 +1,9 @@
 -- `alpha::full::is_full02` meets its contract: its bounds are those of the writer's form. Assumes nothing.
 use Prim.Native.Nat.{_+_, _*_, _≤_}
-use mathlib.Core.Path.{sym, _∙_}
-use mathlib.Core.Bool.{not}
 use native.Mathlib.Omega.{arith}
-use lib.Dec.{eqb, leb}
-use lib.ListN.{getD}
 use denote.Ref.{now}
 use borrow.Author.Needs.{needs}
-use borrow.Author.Tests.{eqb-false, leb-true, not-true}
 use Rattle.rules.specs.Sentences.{commas}
-use Rattle.laws.proofs.Bytes.{both}
 use Rattle.alpha.proofs.Bounds.{rowOf}
 use Rattle.alpha.proofs.Full02.{full02}
 use Rattle.alpha.proofs.full.is_full02.Statement.{statement}
@@ -77,15 +71,9 @@ returns c e =
     let read3 = called .before .before .before in
     let read2 = read3 .before .before in
     let read1 = read2 .before .before in
-    let p = now (read1 .before .before .before .args .p) in
-    let f = both _ (leb (getD p 50 0) 49) e in
-    let g = both _ (not (eqb (getD p 43 0) 48)) (f .0) in
-    let h = both (called .within .result) _ (g .0) in
-    let weight = leb-true (read1 .wide .result * 100 + read2 .wide2 .result * 10 + read3 .wide3 .result) 5583 (h .1) in
-    full02 p (read1 .before .before .before .pre) (sym (called .within .ensures) ∙ h .0)
-    (omega (arith, read1 .wide .ensures, read2 .wide2 .ensures, read3 .wide3 .ensures))
-    (eqb-false (getD p 43 0) 48 (not-true _ (g .1)))
-    (leb-true (getD p 50 0) 49 (f .1))
+    let start = read1 .before .before .before in
+    full02 (now (start .args .p)) (called .within .result) (read1 .wide .result * 100 + read2 .wide2 .result * 10 + read3 .wide3 .result)
+    (start .pre) (called .within .ensures) (omega (arith, read1 .wide .ensures, read2 .wide2 .ensures, read3 .wide3 .ensures)) e
 
 pub is-full02-spec : {M : Type 1} → statement M
 is-full02-spec =
