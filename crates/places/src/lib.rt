@@ -25,6 +25,16 @@ fn packet_size(family: u8, s: &[u8]) -> usize
     if s.len() < 6 {
         return 0;
     }
+    let mark = mark_of(family);
+    if s[2] != mark {
+        return 0;
+    }
+    if s[1] != mark {
+        return 0;
+    }
+    if s[0] != mark {
+        return 0;
+    }
     let n = bytes_needed(family, s[3]);
     if s.len() < n {
         return 0;
@@ -47,7 +57,7 @@ fn sentence_size(s: &[u8], n: usize) -> usize
     if s.len() < n + 6 {
         return 0;
     }
-    if is_good(2, text(s, 0, n + 6)) {
+    if alpha::is_sentence(text(s, 0, n + 6)) {
         return n + 6;
     }
     0

@@ -1,7 +1,7 @@
 -- `places::sentence_size` meets its contract: the payload declares a length, and as many bytes are a good frame or none.
 -- Assumes nothing.
 use Prim.Native.Nat.{ℕ, _+_, min, _<_, _≤_}
-use mathlib.Core.Path.{_≡_, sym, ap, _∙_}
+use mathlib.Core.Path.{_≡_, refl, sym, ap, _∙_}
 use mathlib.Core.List.{List}
 use native.Mathlib.Omega.{arith}
 use borrow.Author.Needs.{needs}
@@ -10,6 +10,7 @@ use Rattle.rules.specs.Answers.{isGood, readOne}
 use Rattle.stream_rules.specs.Heads.{payloadRun, lengthAt, head}
 use Rattle.head_laws.proofs.Heads.{good-head}
 use Rattle.seek_laws.proofs.Starts.{NotGood}
+use Rattle.frames.proofs.Families.{family2}
 use Rattle.places.proofs.Sizes.{size-none, not-declared, size-good, size-refused}
 use Rattle.places.proofs.sentence_size.Statement.{statement}
 use Rattle.places.proofs.sentence_size.Tie as tie
@@ -23,12 +24,13 @@ module _ (bs : List ℕ) (n : ℕ) (counted : n ≡ min (length (payloadRun (dro
   declared h = omega arith
 
 -- whether so many bytes are a good frame
-module _ (c : tie.After-is-good) where
+module _ (c : tie.After-is-sentence) where
   abbrev start : tie.Start
   start = c .before .before .before .before .before
 
-  tested : isGood (readOne 2 (take (start .args .n + 6) (start .args .s .now))) ≡ c .is-good .result
-  tested = sym (c .is-good .ensures ∙ ap (λ (l : List ℕ). isGood (readOne 2 l)) (c .before .text .ensures .content))
+  tested : isGood (readOne 2 (take (start .args .n + 6) (start .args .s .now))) ≡ c .is-sentence .result
+  tested =
+      sym (c .is-sentence .ensures ∙ ap isGood (family2 2 _ (λ e. omega (arith, e)) refl) ∙ ap (λ (l : List ℕ). isGood (readOne 2 l)) (c .before .text .ensures .content))
 
 returns : tie.Need-returns
 returns c =
@@ -51,8 +53,8 @@ add-text c = search needs
 text-requires : tie.Need-text-requires
 text-requires c κs = search needs
 
-is-good-requires : tie.Need-is-good-requires
-is-good-requires c κs = search needs
+is-sentence-requires : tie.Need-is-sentence-requires
+is-sentence-requires c κs = search needs
 
 add-result : tie.Need-add-result
 add-result c = search needs
@@ -76,7 +78,7 @@ sentence-size-spec =
     returns-2
     add-text
     text-requires
-    is-good-requires
+    is-sentence-requires
     add-result
     returns-3
     returns-4)
