@@ -1,0 +1,657 @@
+/* Tries the lister out: on the bench cases that a list can show, on single
+ * frames with fields altered and their sums put right again, on refusals, and
+ * on many made captures.  Except for the bench cases the right answer comes
+ * from a second lister in this file, which is slow on purpose: it takes bytes
+ * as a whole, asks in the plainest words whether they are one good frame, and
+ * tries every length at every place.
+ *
+ *     selftest [SHARE]
+ *
+ * With a share it takes about one of that many turns. */
+#include "captures.h"
+#include "plain.h"
+#include "sys.h"
+
+#define LONGEST 65536u
+#define UNTOUCHED UINT32_C(0xDEADBEEF)
+
+static unsigned long tried, failed;
+
+/* One of this many turns is taken. */
+static unsigned share = 1;
+
+static void check(int right, const char *what)
+{
+    tried++;
+    if (!right) {
+        failed++;
+        printf("WRONG: %s\n", what);
+    }
+}
+
+/* ---- The slow lister ---------------------------------------------------- */
+
+static int one_of(int c, const char *allowed)
+{
+    return c != 0 && strchr(allowed, c) != NULL;
+}
+
+/* Whether a text is digits only, from 1 to longest of them. */
+static int digits(const char *t, size_t longest)
+{
+    size_t n = strlen(t);
+
+    return n >= 1 && n <= longest && strspn(t, "0123456789") == n;
+}
+
+/* Whether a text is spaces, perhaps none, and then digits, at least one. */
+static int spaced_digits(const char *t)
+{
+    return digits(t + strspn(t, " "), 99);
+}
+
+/* The same with a point and some digits behind it. */
+static int spaced_pointed(const char *t, size_t behind)
+{
+    char whole[8];
+    const char *point = strchr(t, '.');
+
+    if (point == NULL)
+        return 0;
+    memcpy(whole, t, (size_t)(point - t));
+    whole[point - t] = '\0';
+    return spaced_digits(whole) && digits(point + 1, behind)
+        && strlen(point + 1) == behind;
+}
+
+/* Fields 1 to 9 of a report. */
+static int slow_settings(char field[19][8])
+{
+    int big = strcmp(field[0], "20K") == 0, small = strcmp(field[0], "13K") == 0;
+    const char *antenna = big ? "0123456" : "01234";
+
+    return (big || small)
+        && one_of(field[1][0], "SO") && one_of(field[2][0], "RT")
+        && one_of(field[3][0], big ? "x" : "AB") && one_of(field[4][0], "12")
+        && digits(field[5], 2) && atoi(field[5]) <= (big ? 10 : 11)
+        && one_of(field[6][0], antenna) && one_of(field[6][1], "tba")
+        && one_of(field[7][0], antenna) && field[7][1] == 'r'
+        && one_of(field[8][0], "LMH");
+}
+
+/* Fields 10 to 19. */
+static int slow_readings(char field[19][8])
+{
+    if (strcmp(field[0], "13K") == 0
+        && (atoi(field[15]) != 0 || atoi(field[16]) != 0))
+        return 0;
+    return spaced_digits(field[9])
+        && spaced_pointed(field[10], 2) && spaced_pointed(field[11], 2)
+        && spaced_pointed(field[12], 1) && spaced_pointed(field[13], 1)
+        && spaced_digits(field[14]) && spaced_digits(field[15])
+        && spaced_digits(field[16])
+        && one_of(field[17][0], "MASBPOYWKRTCN")
+        && one_of(field[18][0], "SADHCN");
+}
+
+static int slow_report(const unsigned char *b, size_t n)
+{
+    static const size_t widths[19] =
+        {3, 1, 1, 1, 1, 2, 2, 2, 1, 4, 5, 5, 4, 4, 3, 3, 3, 1, 1};
+    char field[19][8];
+    unsigned long sum = 0;
+    size_t i, at = 5;
+
+    if (n != 75 || memcmp(b, "\xAA\xAA\xAA\x43,", 5) != 0)
+        return 0;
+    if (b[73] != 13 || b[74] != 10)
+        return 0;
+    for (i = 4; i < 71; i++)
+        sum += b[i];
+    if (b[71] != sum % 256 || b[72] != sum / 256)
+        return 0;
+    memset(field, 0, sizeof field);
+    for (i = 0; i < 19; i++) {
+        memcpy(field[i], b + at, widths[i]);
+        at += widths[i];
+        if (b[at++] != ',')
+            return 0;
+        if (memchr(field[i], 0, widths[i]) != NULL)
+            return 0;
+    }
+    return slow_settings(field) && slow_readings(field);
+}
+
+static int slow_short(unsigned family, const unsigned char *b, size_t n)
+{
+    const char *marks = family == 1 ? "\xAA\xAA\xAA\x01" : "\x55\x55\x55\x01";
+
+    if (n != 6 || memcmp(b, marks, 4) != 0 || b[4] != b[5])
+        return 0;
+    if (b[4] >= 1 && b[4] <= 0x11)
+        return 1;
+    return b[4] == 0x82 || b[4] == 0x83 || (b[4] == 0x90 && family == 3);
+}
+
+/* Cuts a text at its commas; gives how many parts (at most 40 are kept). */
+static size_t parts_of(char *text, char *part[40])
+{
+    size_t many = 0;
+
+    for (;;) {
+        char *comma = strchr(text, ',');
+
+        if (many < 40)
+            part[many] = text;
+        many++;
+        if (comma == NULL)
+            return many;
+        *comma = '\0';
+        text = comma + 1;
+    }
+}
+
+static int slow_02(char **p, size_t many)
+{
+    static const size_t w[13] = {5, 3, 4, 4, 4, 3, 3, 3, 1, 1, 2, 1, 5};
+    size_t i;
+
+    if (many != 14)
+        return 0;
+    for (i = 0; i < 13; i++)
+        if (!digits(p[1 + i], w[i]))
+            return 0;
+    return atoi(p[7]) <= 255 && atoi(p[9]) >= 1 && atoi(p[12]) <= 1;
+}
+
+static int slow_03(char **p, size_t many)
+{
+    static const size_t w[8] = {3, 3, 3, 3, 3, 4, 3, 1};
+    char *point;
+    size_t i;
+
+    if (many != 10)
+        return 0;
+    for (i = 0; i < 8; i++)
+        if (!digits(p[1 + i], w[i]))
+            return 0;
+    if (atoi(p[8]) < 1 || atoi(p[8]) > 5 || !one_of(p[9][0], "+-"))
+        return 0;
+    point = strchr(p[9], '.');
+    if (point == NULL)
+        return 0;
+    *point = '\0';
+    return digits(p[9] + 1, 3) && digits(point + 1, 1);
+}
+
+static int slow_05(char **p, size_t many)
+{
+    size_t i;
+
+    if (many != 8)
+        return 0;
+    for (i = 1; i < 8; i++)
+        if (strlen(p[i]) != 2 || strspn(p[i], "0123456789ABCDEF") != 2)
+            return 0;
+    return 1;
+}
+
+/* The payload's own rules, from a copy of it as text. */
+static int slow_payload(char *payload)
+{
+    char *part[40];
+    size_t many = parts_of(payload, part);
+
+    if (strlen(part[0]) != 5 || strncmp(part[0], "APA", 3) != 0)
+        return 0;
+    if (!digits(part[0] + 3, 2))
+        return 0;
+    if (strcmp(part[0], "APA02") == 0)
+        return slow_02(part, many);
+    if (strcmp(part[0], "APA03") == 0)
+        return slow_03(part, many);
+    if (strcmp(part[0], "APA05") == 0)
+        return slow_05(part, many);
+    return 1;
+}
+
+static int slow_sentence(const unsigned char *b, size_t n)
+{
+    char payload[129], sums[8];
+    unsigned sum1 = 0, sum2 = 0;
+    size_t i;
+
+    if (n < 11 || n > 134 || b[0] != '$' || b[n - 5] != '*')
+        return 0;
+    for (i = 1; i < n - 5; i++) {
+        if (b[i] < 0x20 || b[i] > 0x7E || b[i] == '$' || b[i] == '*')
+            return 0;
+        sum1 = (sum1 + b[i]) % 256;
+        sum2 = (sum2 + sum1) % 256;
+        payload[i - 1] = (char)b[i];
+    }
+    payload[n - 6] = '\0';
+    sprintf(sums, "%02X%02X", sum2, sum1);
+    return memcmp(b + n - 4, sums, 4) == 0 && slow_payload(payload);
+}
+
+static int slow_frame(unsigned family, const unsigned char *b, size_t n)
+{
+    if (family == 2)
+        return slow_sentence(b, n);
+    return slow_short(family, b, n) || (family == 1 && slow_report(b, n));
+}
+
+/* Lists into starts, which has to be large enough; adds up the bytes of the
+ * frames in *framed. */
+static size_t slow_list(unsigned family, const unsigned char *s, size_t n,
+                        uint32_t *starts, size_t *framed)
+{
+    size_t found = 0, p = 0, length;
+
+    *framed = 0;
+    while (p < n) {
+        for (length = 1; length <= 134 && length <= n - p; length++)
+            if (slow_frame(family, s + p, length))
+                break;
+        if (length > 134 || length > n - p) {
+            p++;
+            continue;
+        }
+        starts[found++] = (uint32_t)p;
+        *framed += length;
+        p += length;
+    }
+    return found;
+}
+
+/* ---- Comparing ---------------------------------------------------------- */
+
+/* Places for the most room any test asks for, and a watched one beyond. */
+static uint32_t places[LONGEST + 64], right[LONGEST];
+
+/* Runs the lister with this much room and compares answer, count and every
+ * place, one beyond the room as well.  The capture is moved to memory of just
+ * its size, so that a checked build sees a look past its end. */
+static int as_expected(unsigned family, const unsigned char *s, size_t n,
+                       size_t room, const uint32_t *want, size_t many)
+{
+    unsigned char *tight = malloc(n > 0 ? n : 1);
+    unsigned answer, refusal = many > room ? REFUSED_ROOM : 0;
+    size_t count = 77, i, filled = refusal == 0 ? many : 0;
+    int same;
+
+    if (n > 0)
+        memcpy(tight, s, n);
+    for (i = 0; i <= room; i++)
+        places[i] = UNTOUCHED;
+    answer = plain_list(family, tight, n, places, room, &count);
+    free(tight);
+    same = answer == refusal && count == (refusal == 0 ? many : 77);
+    for (i = 0; i < filled; i++)
+        same = same && places[i] == want[i];
+    for (; i <= room; i++)
+        same = same && places[i] == UNTOUCHED;
+    return same;
+}
+
+/* A small generator of chances for this file. */
+static uint64_t seed_now = 12345;
+
+static unsigned roll(unsigned limit)
+{
+    seed_now ^= seed_now << 13;
+    seed_now ^= seed_now >> 7;
+    seed_now ^= seed_now << 17;
+    return (unsigned)(seed_now >> 33) % limit;
+}
+
+/* ---- Bench cases -------------------------------------------------------- */
+
+static void bench(const char *name, unsigned family, const void *s, size_t n,
+                  size_t many, uint32_t first, uint32_t second)
+{
+    uint32_t want[2];
+
+    want[0] = first;
+    want[1] = second;
+    check(as_expected(family, s, n, 3, want, many), name);
+    check(as_expected(family, s, n, n, want, many), name);
+    if (many > 0)
+        check(as_expected(family, s, n, many - 1, want, many), name);
+    check(slow_list(family, s, n, right, &n) == many
+          && memcmp(right, want, many * sizeof *want) == 0, name);
+}
+
+static void packet_cases(void)
+{
+    static const char two[] = "\xAA\xAA\xAA\x01\x0D\x0D\xAA\xAA\xAA\x01\x09\x09";
+    unsigned char b[75] = {0};
+
+    bench("case 1", 1, "\xAA\xAA\xAA\xAA\x01\x0D\x0D", 7, 1, 1, 0);
+    bench("case 2", 1, two, 12, 2, 0, 6);
+    bench("case 3", 1, "\xAA\xAA\xAA\x01\x0D\x0E\xAA\xAA\xAA\x01\x09\x09", 12,
+          1, 6, 0);
+    memcpy(b, "\xAA\xAA\xAA\x43", 4);
+    memcpy(b + 4, two, 12);
+    bench("case 4, 16 bytes", 1, b, 16, 2, 4, 10);
+    bench("case 4, 75 bytes", 1, b, 75, 2, 4, 10);
+    bench("case 10, family 1", 1, "\xAA\xAA\xAA\x01\x90\x90", 6, 0, 0, 0);
+    bench("case 10, family 3", 3, "\x55\x55\x55\x01\x90\x90", 6, 1, 0, 0);
+    bench("case 11, family 1", 1, "", 0, 0, 0, 0);
+    bench("case 11, family 2", 2, "", 0, 0, 0, 0);
+    bench("case 11, family 3", 3, "", 0, 0, 0, 0);
+}
+
+/* A report with these 67 bytes of data and the sum put right. */
+static void wrap_report(unsigned char *b, const char *data)
+{
+    unsigned sum = 0;
+    size_t i;
+
+    memcpy(b, "\xAA\xAA\xAA\x43", 4);
+    memcpy(b + 4, data, 67);
+    for (i = 4; i < 71; i++)
+        sum += b[i];
+    b[71] = (unsigned char)(sum % 256);
+    b[72] = (unsigned char)(sum / 256);
+    b[73] = 0x0D;
+    b[74] = 0x0A;
+}
+
+static void report_cases(void)
+{
+    unsigned char b[75];
+
+    wrap_report(b, ",20K,S,R,x,2,03,2t,0r,M,0000, 0.00, 0.00, 0.0, 0.0,"
+                   " 31, 29, 30,N,N,");
+    check(b[71] == 0x6A && b[72] == 0x0D, "case 5, check bytes");
+    bench("case 5", 1, b, 75, 1, 0, 0);
+    bench("case 5, a byte short", 1, b, 74, 0, 0, 0);
+    b[71] = 0x0D;
+    b[72] = 0x6A;
+    bench("case 6", 1, b, 75, 0, 0, 0);
+    wrap_report(b, ",13K,S,R,A,2,11,2t,0r,M,0000, 0.00, 0.00, 0.0, 0.0,"
+                   " 31,  0,000,N,N,");
+    bench("case 13, 13K", 1, b, 75, 1, 0, 0);
+    wrap_report(b, ",20K,S,R,x,2,11,2t,0r,M,0000, 0.00, 0.00, 0.0, 0.0,"
+                   " 31, 29, 30,N,N,");
+    bench("case 13, 20K", 1, b, 75, 0, 0, 0);
+}
+
+/* A dollar sign, the payload, and the right end; gives the length. */
+static size_t wrap_sentence(unsigned char *b, const char *payload)
+{
+    size_t n = strlen(payload), i;
+    unsigned sum1 = 0, sum2 = 0;
+
+    for (i = 0; i < n; i++) {
+        sum1 = (sum1 + (unsigned char)payload[i]) % 256;
+        sum2 = (sum2 + sum1) % 256;
+    }
+    return (size_t)sprintf((char *)b, "$%s*%02X%02X", payload, sum2, sum1);
+}
+
+static void sentence_cases(void)
+{
+    unsigned char b[160];
+    char payload[160] = "APA99,";
+
+    bench("case 8", 2, "$APA05,11,18,1B,34,00,2A,01*a844", 32, 0, 0, 0);
+    bench("case 9", 2, "$APA0$APA05,11,18,1B,34,00,2A,01*A844", 37, 1, 5, 0);
+    memset(payload + 6, '~', 123);
+    bench("case 12, 129", 2, b, wrap_sentence(b, payload), 0, 0, 0);
+    payload[128] = '\0';
+    bench("case 12, 128", 2, b, wrap_sentence(b, payload), 1, 0, 0);
+    bench("shortest", 2, b, wrap_sentence(b, "APA99"), 1, 0, 0);
+    bench("bare comma", 2, b, wrap_sentence(b, "APA99,"), 1, 0, 0);
+    bench("no comma", 2, b, wrap_sentence(b, "APA99x"), 0, 0, 0);
+    bench("bare 05", 2, b, wrap_sentence(b, "APA05"), 0, 0, 0);
+}
+
+/* The sentences printed for the Alpha; the print breaks 06 over two lines. */
+static void printed_sentences(void)
+{
+    static const char *const printed[] = {
+        "$APA00,AmateurProto,63942A0008,1.19,1.19,1.16,1.16,1.16*283E",
+        "$APA02,15017,010,2590,3169,0768,230,096,057,1,6,01,0,15721*D83F",
+        "$APA03,499,121,240,121,389,2370,000,5,+028.0*9D7D",
+        "$APA04,01750,02000,03450,04100,06900,07500,09900,10600,13900,14600,"
+        "17900,18600,20900,21600,24400,25000,27995,29900*E213",
+        "$APA05,11,18,1B,34,00,2A,01*A844",
+        "$APA06,FF,FF,FF,FF,FF,FF,FF,FF,FF,FF,71,01,01,01,01,01,01,01,04,01,"
+        "01,01,01,01,01,01,01,01,01,01,01*4203",
+        "$APA11,02,0000,00EA,0068,0068*72B4"
+    };
+    size_t i;
+
+    for (i = 0; i < sizeof printed / sizeof *printed; i++)
+        bench("case 7 and its kin", 2, printed[i], strlen(printed[i]), 1, 0, 0);
+}
+
+/* ---- Refusals ----------------------------------------------------------- */
+
+static unsigned char large[LONGEST + 1];
+
+static void refusals(void)
+{
+    size_t count = 77;
+
+    places[0] = UNTOUCHED;
+    check(plain_list(0, large, 6, places, 1, &count) == 1, "family 0");
+    check(plain_list(4, large, 6, places, 1, &count) == 1, "family 4");
+    check(plain_list(4, large, LONGEST + 1, places, 1, &count) == 1,
+          "family before length");
+    make_capture(3, CLEAN, 1, large, LONGEST + 1);
+    check(plain_list(3, large, LONGEST + 1, places, 0, &count) == 7,
+          "length before room");
+    check(plain_list(3, large, LONGEST, places, 10921, &count) == 4,
+          "room one short");
+    check(count == 77 && places[0] == UNTOUCHED, "refusals leave all alone");
+    check(plain_list(3, large, LONGEST, places, 10922, &count) == 0
+          && count == 10922 && places[10921] == 10921 * 6, "room just enough");
+    count = 77;
+    check(plain_list(1, NULL, 0, NULL, 0, &count) == 0 && count == 0,
+          "nothing at all");
+}
+
+/* ---- Single frames with altered fields ---------------------------------- */
+
+static unsigned long good_seen, bad_seen;
+
+static void compare_one(unsigned family, const unsigned char *b, size_t n)
+{
+    size_t framed, many = slow_list(family, b, n, right, &framed);
+
+    if (many > 0)
+        good_seen++;
+    else
+        bad_seen++;
+    check(as_expected(family, b, n, n, right, many), "an altered frame");
+}
+
+/* Each data byte of a report in turn takes each value, then a few bytes at
+ * once take values that fields use; the sum is put right each time. */
+static void altered_reports(void)
+{
+    static const char likely[] = "0123456789 .,xABKSORTLMHNtbarCDPWY";
+    unsigned char b[75];
+    char data[67], clean[67];
+    unsigned i, value, turn, change;
+
+    for (turn = 0; turn < 4000 / share; turn++) {
+        do {
+            make_capture(1, CLEAN, turn * 8 + roll(8), b, 75);
+        } while (b[3] != 0x43);
+        memcpy(clean, b + 4, 67);
+        for (i = 0; i < 67 && turn < 20 / share; i++)
+            for (value = 0; value < 256; value++) {
+                memcpy(data, clean, 67);
+                data[i] = (char)value;
+                wrap_report(b, data);
+                compare_one(1, b, 75);
+            }
+        for (i = 0; i < 30; i++) {
+            memcpy(data, clean, 67);
+            for (change = 1 + roll(3); change > 0; change--)
+                data[roll(67)] = likely[roll(sizeof likely - 1)];
+            wrap_report(b, data);
+            compare_one(1, b, 75);
+        }
+    }
+}
+
+/* Changes, drops or adds a byte of a text of at most 150 bytes. */
+static void alter_text(char *t, const char *likely)
+{
+    size_t n = strlen(t), at = roll((unsigned)n);
+    char byte = likely[roll((unsigned)strlen(likely))];
+
+    switch (roll(4)) {
+    case 0:
+        memmove(t + at, t + at + 1, n - at);
+        break;
+    case 1:
+        memmove(t + at + 1, t + at, n - at + 1);
+        t[at] = byte;
+        break;
+    default:
+        t[at] = byte;
+    }
+}
+
+static void altered_sentences(void)
+{
+    unsigned char b[200];
+    char payload[200];
+    unsigned turn, i, change;
+
+    for (turn = 0; turn < 20000 / share; turn++) {
+        make_capture(2, CLEAN, turn, b, 134);
+        for (i = 0; b[i + 1] != '*'; i++)
+            payload[i] = (char)b[i + 1];
+        payload[i] = '\0';
+        for (i = 0; i < 15 && strlen(payload) > 4; i++) {
+            for (change = roll(3); change > 0; change--)
+                alter_text(payload, "0123456789012345678902356789.,+-,AFGaAP\x7F");
+            compare_one(2, b, wrap_sentence(b, payload));
+        }
+    }
+}
+
+/* A sentence 02 with these values, its first field at full width or not, so
+ * that both of the lister's ways are taken. */
+static void one_02(int full, unsigned grid, unsigned band, unsigned key)
+{
+    unsigned char b[200];
+    char payload[160];
+
+    sprintf(payload, "APA02,%s,010,2590,3169,0768,230,%0*u,057,%u,6,01,%u,15721",
+            full ? "15017" : "7", full ? 3 : 1, grid, band, key);
+    compare_one(2, b, wrap_sentence(b, payload));
+}
+
+/* Every grid voltage, band, key and mains tap that the digits can carry. */
+static void limited_fields(void)
+{
+    unsigned char b[200];
+    char payload[160];
+    unsigned i, full;
+
+    for (full = 0; full < 2; full++) {
+        for (i = 0; i < 1000; i++)
+            one_02((int)full, i, 1, 0);
+        for (i = 0; i < 100; i++)
+            one_02((int)full, 96, i / 10, i % 10);
+        for (i = 0; i < 10; i++) {
+            sprintf(payload, "APA03,%s,121,240,121,389,2370,000,%u,-000.0",
+                    full ? "499" : "9", i);
+            compare_one(2, b, wrap_sentence(b, payload));
+        }
+    }
+}
+
+/* Every code with every check byte, in both packet families. */
+static void all_short_packets(void)
+{
+    unsigned code, sum;
+    unsigned char b[6] = {0, 0, 0, 1, 0, 0};
+
+    for (code = 0; code < 256; code++)
+        for (sum = 0; sum < 256; sum++) {
+            b[4] = (unsigned char)code;
+            b[5] = (unsigned char)sum;
+            b[0] = b[1] = b[2] = 0xAA;
+            compare_one(1, b, 6);
+            b[0] = b[1] = b[2] = 0x55;
+            compare_one(3, b, 6);
+        }
+}
+
+/* ---- Made captures ------------------------------------------------------ */
+
+/* Room: none, a few, just short, just enough, or plenty. */
+static size_t some_room(size_t many, size_t n)
+{
+    switch (roll(5)) {
+    case 0: return roll((unsigned)many + 2);
+    case 1: return many > 0 ? many - 1 : 0;
+    case 2: return many;
+    case 3: return many + roll(20);
+    default: return n;
+    }
+}
+
+static unsigned long frames_seen[4][KINDS];
+
+static void one_capture(unsigned family, unsigned kind, uint64_t seed, size_t n)
+{
+    size_t framed, many;
+    char what[80];
+
+    make_capture(family, kind, seed, large, n);
+    many = slow_list(family, large, n, right, &framed);
+    frames_seen[family][kind] += many;
+    sprintf(what, "family %u %s seed %lu", family, kind_name(kind),
+            (unsigned long)seed);
+    check(as_expected(family, large, n, some_room(many, n), right, many), what);
+    if (kind == CLEAN)
+        check(n - framed < 134, "a clean capture is frames up to its end");
+}
+
+static void made_captures(void)
+{
+    unsigned family, kind, seed;
+
+    for (family = 1; family <= 3; family++)
+        for (kind = 0; kind < KINDS; kind++) {
+            for (seed = 0; seed < 2500 / share; seed++)
+                one_capture(family, kind, seed, roll(seed % 5 < 2 ? 160 : 2500));
+            for (seed = 2500; seed < 2500 + 10 / share; seed++)
+                one_capture(family, kind, seed, LONGEST - roll(3));
+            printf("family %u %-14s %8lu frames in %u captures\n", family,
+                   kind_name(kind), frames_seen[family][kind],
+                   2500 / share + 10 / share);
+        }
+}
+
+int main(int argc, char **argv)
+{
+    if (argc > 1 && atoi(argv[1]) > 1)
+        share = (unsigned)atoi(argv[1]);
+    packet_cases();
+    report_cases();
+    sentence_cases();
+    printed_sentences();
+    refusals();
+    printf("bench cases and refusals: %lu checks, %lu wrong\n", tried, failed);
+    all_short_packets();
+    limited_fields();
+    altered_reports();
+    altered_sentences();
+    printf("single frames: %lu with a good frame, %lu without\n",
+           good_seen, bad_seen);
+    made_captures();
+    printf("%lu checks, %lu wrong\n", tried, failed);
+    return failed == 0 ? 0 : 1;
+}

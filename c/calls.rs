@@ -1,0 +1,141 @@
+//! Calls every function of the library once from Rust, through c/amp.rs, and holds the results to what
+//! is known of them. A line for each check that fails, and a last line 'N checks, M wrong'.
+//! Nothing here is newer than Rust 1.63.
+
+#[path = "amp.rs"]
+mod amp;
+
+use amp::*;
+
+const CASE_2: &[u8] = b"\xAA\xAA\xAA\x01\x0D\x0D\xAA\xAA\xAA\x01\x09\x09";
+const CASE_7: &[u8] = b"$APA05,11,18,1B,34,00,2A,01*A844";
+const VALUES_7: [i64; AMP_05_VALUES] = [1, 1, 1, 8, 1, 11, 3, 4, 0, 42, 1];
+
+struct Checks {
+    tried: usize,
+    wrong: usize,
+}
+
+impl Checks {
+    fn check(&mut self, right: bool, what: &str) {
+        self.tried += 1;
+        if !right {
+            self.wrong += 1;
+            println!("wrong: {}", what);
+        }
+    }
+}
+
+fn layout(checks: &mut Checks, reader: &AmpReader) {
+    let base = reader as *const AmpReader as usize;
+    checks.check(
+        std::mem::size_of::<AmpReader>() == 144,
+        "a reader has 144 bytes",
+    );
+    checks.check(
+        std::mem::align_of::<AmpReader>() == 4,
+        "a reader is aligned to 4",
+    );
+    checks.check(&reader.at as *const u32 as usize - base == 136, "at at 136");
+    checks.check(
+        &reader.skipped as *const u32 as usize - base == 140,
+        "skipped at 140",
+    );
+}
+
+fn streams(checks: &mut Checks) {
+    let mut reader = AmpReader {
+        family: 9,
+        closed: 9,
+        count: 9,
+        held: [9; 133],
+        at: 9,
+        skipped: 9,
+    };
+    let mut row = [-77i64; AMP_ROW];
+    layout(checks, &reader);
+    checks.check(unsafe { amp_fresh(&mut reader, 2) } == 0, "fresh");
+    let number = unsafe {
+        amp_feed(
+            &mut reader,
+            CASE_7.as_ptr(),
+            CASE_7.len(),
+            row.as_mut_ptr(),
+            AMP_ROW,
+        )
+    };
+    checks.check(number == 0, "feed");
+    checks.check(
+        row[..AMP_VALUES] == [AMP_SENTENCE as i64, 5, 32, 0, 0, 32],
+        "the fed row",
+    );
+    checks.check(
+        row[AMP_VALUES..][..AMP_05_VALUES] == VALUES_7,
+        "the fed values",
+    );
+    checks.check(
+        unsafe { amp_close(&mut reader) } == 0 && reader.closed == 1,
+        "close",
+    );
+    let number = unsafe { amp_feed(&mut reader, CASE_7.as_ptr(), 1, row.as_mut_ptr(), AMP_ROW) };
+    checks.check(number == AMP_CLOSED, "closed");
+}
+
+fn frames(checks: &mut Checks) {
+    let mut row = [-77i64; AMP_ROW];
+    let mut out = [0xEEu8; 64];
+    let mut length = 0usize;
+    let number = unsafe { amp_read(2, CASE_7.as_ptr(), CASE_7.len(), row.as_mut_ptr(), AMP_ROW) };
+    checks.check(number == 0 && row[..2] == [AMP_SENTENCE as i64, 5], "read");
+    checks.check(
+        row[AMP_VALUES..][..AMP_05_VALUES] == VALUES_7,
+        "the read values",
+    );
+    checks.check(
+        row[AMP_VALUES + AMP_05_VALUES] == -77,
+        "untouched behind the values",
+    );
+    let number = unsafe {
+        let (values, many) = (VALUES_7.as_ptr(), VALUES_7.len());
+        amp_write(
+            AMP_SENTENCE,
+            5,
+            values,
+            many,
+            out.as_mut_ptr(),
+            out.len(),
+            &mut length,
+        )
+    };
+    checks.check(number == 0 && &out[..length] == CASE_7, "write");
+    checks.check(out[length] == 0xEE, "untouched behind the frame");
+    let number = unsafe { amp_write_enable(out.as_mut_ptr(), out.len(), &mut length) };
+    checks.check(number == 0 && &out[..length] == b"+++", "enable");
+}
+
+fn captures(checks: &mut Checks) {
+    let mut starts = [u32::MAX; 3];
+    let mut count = 0usize;
+    let mut start = 0usize;
+    let (bytes, n) = (CASE_2.as_ptr(), CASE_2.len());
+    let number = unsafe { amp_list(1, bytes, n, starts.as_mut_ptr(), starts.len(), &mut count) };
+    checks.check(
+        number == 0 && count == 2 && starts == [0, 6, u32::MAX],
+        "list",
+    );
+    let size = unsafe { amp_next(1, bytes, n, 1, 0, &mut start) };
+    checks.check(size == 6 && start == 6, "next");
+    checks.check(
+        unsafe { amp_stamp_order(u32::MAX, 0) } == AMP_EARLIER,
+        "stamps",
+    );
+}
+
+fn main() {
+    let mut checks = Checks { tried: 0, wrong: 0 };
+    streams(&mut checks);
+    frames(&mut checks);
+    captures(&mut checks);
+    println!("{} checks, {} wrong", checks.tried, checks.wrong);
+    std::process::exit(if checks.wrong == 0 { 0 } else { 1 });
+}

@@ -1,0 +1,137 @@
+/* The panel's loop, as an example: bytes from a serial line go to a stream reader as they arrive, and
+ * each status report becomes a line of words when it is ready. Other frames are passed over.
+ *
+ *     panel FAMILY [PIECE] < BYTES
+ *
+ * PIECE is the most bytes that are read at once, from 1 to 64; 64 if it is not given. What is said does
+ * not depend on it. At the end of the input the reader is closed and drained, and a last line counts
+ * what was heard. */
+#include "amp.h"
+#include "sys.h"
+
+#define PIECE 64
+
+/* What the panel keeps from call to call: one reader, and counts for the last line. */
+static amp_reader reader;
+static unsigned long reports, others;
+
+struct word {
+    int64_t letter;
+    const char *text;
+};
+
+static const struct word warnings[] = {
+    {'M', "alarm amplifier"}, {'A', "no selected antenna"}, {'S', "SWR antenna"},
+    {'B', "no valid band"}, {'P', "power limit exceeded"}, {'O', "overheating"},
+    {'Y', "ATU not available"}, {'W', "tuning with no power"}, {'K', "ATU bypassed"},
+    {'R', "power switch held by remote"}, {'T', "combiner overheating"}, {'C', "combiner fault"},
+    {'N', "none"}, {0, "?"}
+};
+
+static const struct word alarms[] = {
+    {'S', "SWR exceeding limits"}, {'A', "amplifier protection"}, {'D', "input overdriving"},
+    {'H', "excess overheating"}, {'C', "combiner fault"}, {'N', "none"}, {0, "?"}
+};
+
+static const char *text_of(const struct word *words, int64_t letter)
+{
+    while (words->letter != 0 && words->letter != letter)
+        words++;
+    return words->text;
+}
+
+/* A line is written at once and whole: the listener must not wait for a buffer to fill. */
+static void say(const char *line, int length)
+{
+    while (length > 0) {
+        long n = write(1, line, (size_t)length);
+
+        if (n <= 0)
+            return;
+        line += n;
+        length -= (int)n;
+    }
+}
+
+static void say_refusal(uint32_t number)
+{
+    char line[32];
+
+    say(line, snprintf(line, sizeof line, "refused %u\n", (unsigned)number));
+}
+
+/* The SWR that matters to the operator is the antenna's. */
+static void say_report(const int64_t *row)
+{
+    const int64_t *v = row + AMP_VALUES;
+    char line[160];
+
+    say(line, snprintf(line, sizeof line,
+        "%lu: %s, %s, %lu W, SWR %lu.%02lu, warning %s, alarm %s\n",
+        (unsigned long)row[AMP_START],
+        v[AMP_STATUS_STATE] == 'O' ? "operate" : "standby",
+        v[AMP_STATUS_DIRECTION] == 'T' ? "transmit" : "receive",
+        (unsigned long)v[AMP_STATUS_WATTS],
+        (unsigned long)v[AMP_STATUS_SWR_ANT] / 100, (unsigned long)v[AMP_STATUS_SWR_ANT] % 100,
+        text_of(warnings, v[AMP_STATUS_WARNING]), text_of(alarms, v[AMP_STATUS_ALARM])));
+}
+
+static void heard(const int64_t *row)
+{
+    if (row[AMP_KIND] == AMP_STATUS) {
+        reports++;
+        say_report(row);
+    } else {
+        others++;
+    }
+}
+
+/* Offers bytes until the reader wants others, or is done: a call stops at each frame, and what it did
+ * not take is offered again. Gives the refusal, after which the reader is as it was. */
+static uint32_t offer(const uint8_t *bytes, size_t n)
+{
+    int64_t row[AMP_ROW];
+
+    for (;;) {
+        uint32_t number = amp_feed(&reader, bytes, n, row, AMP_ROW);
+
+        if (number != 0)
+            return number;
+        bytes += row[AMP_TAKEN];
+        n -= (size_t)row[AMP_TAKEN];
+        if (row[AMP_KIND] == AMP_MORE || row[AMP_KIND] == AMP_DONE)
+            return 0;
+        heard(row);
+    }
+}
+
+/* The whole evening: as long as bytes come, and then what is still held. */
+static uint32_t listen(uint32_t family, size_t piece)
+{
+    uint8_t bytes[PIECE];
+    uint32_t number = amp_fresh(&reader, family);
+    long n;
+
+    while (number == 0 && (n = read(0, bytes, piece)) > 0)
+        number = offer(bytes, (size_t)n);
+    if (number == 0)
+        number = amp_close(&reader);
+    if (number == 0)
+        number = offer(bytes, 0);
+    return number;
+}
+
+int main(int argc, char **argv)
+{
+    uint32_t family = argc > 1 ? (uint32_t)strtoull(argv[1], NULL, 10) : 1;
+    size_t piece = argc > 2 ? (size_t)strtoull(argv[2], NULL, 10) : PIECE;
+    char line[80];
+    uint32_t number = listen(family, piece >= 1 && piece <= PIECE ? piece : PIECE);
+
+    if (number != 0) {
+        say_refusal(number);
+        return 1;
+    }
+    say(line, snprintf(line, sizeof line, "%lu reports, %lu other frames\n", reports, others));
+    return 0;
+}

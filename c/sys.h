@@ -1,0 +1,46 @@
+/* The few functions of the C library that these programs call, declared here because the toolchain's
+ * clang has no headers. The declarations are those of Linux on x86-64, so a compiler that does have
+ * headers takes them too; a file that includes this one includes none of <stdio.h>, <string.h>,
+ * <time.h> or <unistd.h>. */
+#ifndef SYS_H
+#define SYS_H
+
+#include <stddef.h>
+
+int printf(const char *form, ...) __attribute__((format(printf, 1, 2)));
+int sprintf(char *text, const char *form, ...) __attribute__((format(printf, 2, 3)));
+int snprintf(char *text, size_t room, const char *form, ...) __attribute__((format(printf, 3, 4)));
+
+void *memcpy(void *to, const void *from, size_t n);
+void *memmove(void *to, const void *from, size_t n);
+void *memset(void *to, int byte, size_t n);
+int memcmp(const void *a, const void *b, size_t n);
+void *memchr(const void *a, int byte, size_t n);
+
+size_t strlen(const char *text);
+int strcmp(const char *a, const char *b);
+int strncmp(const char *a, const char *b, size_t n);
+char *strchr(const char *text, int byte);
+size_t strspn(const char *text, const char *allowed);
+int atoi(const char *text);
+unsigned long long strtoull(const char *text, char **end, int base);
+
+void *malloc(size_t n);
+void free(void *memory);
+
+enum { SYS_READ = 1, SYS_WRITE = 2, SYS_PRIVATE = 2, SYS_ANONYMOUS = 0x20 };
+#define SYS_NO_MAP ((void *)-1)
+void *mmap(void *at, size_t n, int allowed, int flags, int file, long offset);
+int mprotect(void *at, size_t n, int allowed);
+
+long read(int file, void *to, size_t n);
+long write(int file, const void *from, size_t n);
+
+struct timespec {
+    long tv_sec;
+    long tv_nsec;
+};
+enum { SYS_PROCESS_TIME = 2 };
+int clock_gettime(int clock, struct timespec *now);
+
+#endif
