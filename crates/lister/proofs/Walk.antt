@@ -18,9 +18,9 @@ use Rattle.seek_laws.proofs.Families.{facts}
 use Rattle.seek.specs.Sought.{firstFrom}
 use Rattle.seek.specs.declared.First.{First}
 use Rattle.seek.specs.declared.First.the-variants.{At, Nothing}
-use Rattle.places.specs.Places.{placeIn}
-use Rattle.places.specs.declared.Place.{Place}
-use Rattle.places.proofs.Sizes.{six}
+use Rattle.lister.specs.Places.{placeIn}
+use Rattle.lister.specs.declared.places.Place.{Place}
+use Rattle.lister.proofs.Sizes.{six}
 
 -- what is left to list from a place on
 abbrev pub left : ℕ → List ℕ → ℕ → List Found

@@ -1,7 +1,13 @@
 // The lister: the starts of all frames in a capture, and the earliest frame from a place on.
+mod places;
+
+use heads::mark_of;
+use heads::payload_bytes;
 use leaves::one_of;
 use leaves::text;
 use places::first_place;
+use places::packet_size;
+use places::sentence_size;
 use seek::First;
 use seek::first_good;
 use stream_rules::Listed;
@@ -29,24 +35,72 @@ fn count_frames(family: u8, capture: &[u8]) -> usize
     n
 }
 
+// Fills in the starts of packets and reports, for which there is room, and gives how many there are. It
+// passes over starts as `places::first_packet` does.
+fn fill_packets(family: u8, capture: &[u8], starts: &mut [u32]) -> usize
+    requires { ⌜ (family ≡ 2 → ⊥) × (length (now capture) ≤ 65536) ⌝ }
+    requires { ⌜ length (frames family (now capture)) ≤ length (now starts) ⌝ }
+    ensures { λ r. ⌜ Fills family (now (capture .entry)) (now (starts .entry)) r (now (starts .exit)) ⌝ }
+{
+    let mark = mark_of(family);
+    let mut at = 0;
+    let mut n = 0;
+    while at < capture.len() {
+        if capture.len() - at < 6 {
+            return n;
+        }
+        if capture[at + 3] == mark {
+            at += 1;
+            continue;
+        }
+        let size = packet_size(family, &capture[at..]);
+        if size == 0 {
+            at += 4;
+            continue;
+        }
+        starts[n] = at as u32;
+        n += 1;
+        at += size;
+    }
+    n
+}
+
+// The same for sentences, as `places::first_sentence` does.
+fn fill_sentences(capture: &[u8], starts: &mut [u32]) -> usize
+    requires { ⌜ length (now capture) ≤ 65536 ⌝ }
+    requires { ⌜ length (frames 2 (now capture)) ≤ length (now starts) ⌝ }
+    ensures { λ r. ⌜ Fills 2 (now (capture .entry)) (now (starts .entry)) r (now (starts .exit)) ⌝ }
+{
+    let mut at = 0;
+    let mut n = 0;
+    while at < capture.len() {
+        if capture[at] != b'$' {
+            at += 1;
+            continue;
+        }
+        let run = payload_bytes(&capture[at + 1..]);
+        let size = sentence_size(&capture[at..], run);
+        if size == 0 {
+            at += run + 1;
+            continue;
+        }
+        starts[n] = at as u32;
+        n += 1;
+        at += size;
+    }
+    n
+}
+
 // Fills in the starts, for which there is room, and gives how many there are.
 fn fill_starts(family: u8, capture: &[u8], starts: &mut [u32]) -> usize
     requires { ⌜ length (now capture) ≤ 65536 ⌝ }
     requires { ⌜ length (frames family (now capture)) ≤ length (now starts) ⌝ }
     ensures { λ r. ⌜ Fills family (now (capture .entry)) (now (starts .entry)) r (now (starts .exit)) ⌝ }
 {
-    let mut at = 0;
-    let mut n = 0;
-    while at < capture.len() {
-        let place = first_place(family, capture, at);
-        if place.size == 0 {
-            return n;
-        }
-        starts[n] = place.start as u32;
-        n += 1;
-        at = place.start + place.size;
+    if family == 2 {
+        return fill_sentences(capture, starts);
     }
-    n
+    fill_packets(family, capture, starts)
 }
 
 // The starts of the frames in a capture, and how many there are: refusal 1, then 7, then 4.

@@ -1,4 +1,4 @@
--- `places::packet_size` meets its contract: the count declares a length, and as many bytes are a good frame or none.
+-- `lister::places::packet_size` meets its contract: the count declares a length, and as many bytes are a good frame or none.
 -- Assumes nothing.
 use Prim.Native.Nat.{ℕ}
 use mathlib.Core.Path.{_≡_, sym, ap, _∙_}
@@ -9,10 +9,10 @@ use borrow.Author.Tests.{ne-eqb}
 use lib.ListN.{length, take, getD}
 use Rattle.rules.specs.Answers.{isGood, readOne}
 use Rattle.stream_rules.specs.Heads.{needs, lengthAt}
-use Rattle.places.proofs.Sizes.{size-none, too-short, not-declared, size-good, size-refused}
-use Rattle.places.proofs.Skips.{not-marked}
-use Rattle.places.proofs.packet_size.Statement.{statement}
-use Rattle.places.proofs.packet_size.Tie as tie
+use Rattle.lister.proofs.Sizes.{size-none, too-short, not-declared, size-good, size-refused}
+use Rattle.lister.proofs.Skips.{not-marked}
+use Rattle.lister.proofs.places.packet_size.Statement.{statement}
+use Rattle.lister.proofs.places.packet_size.Tie as tie
 
 -- a packet declares what its count needs
 declared : (family : ℕ) (bs : List ℕ) (n : ℕ) → (family ≡ 2 → ⊥) → n ≡ needs family (getD bs 3 0) → lengthAt family bs ≡ n

@@ -9,7 +9,7 @@ ghost use mathlib.Core.Path.{_≡_};
 ghost use Prim.Native.Nat.{min};
 ghost use lib.ListN.{length, drop};
 ghost use Rattle.stream_rules.specs.Heads.{payloadRun};
-ghost use Rattle.places.specs.Places.{sizeAt, placeIn};
+ghost use Rattle.lister.specs.Places.{sizeAt, placeIn};
 
 // The place of a good frame and its length. Both are 0 where there is none.
 pub struct Place {
@@ -18,7 +18,7 @@ pub struct Place {
 }
 
 // How long the good packet or report at the head is; 0 where there is none.
-fn packet_size(family: u8, s: &[u8]) -> usize
+pub(crate) fn packet_size(family: u8, s: &[u8]) -> usize
     requires { ⌜ (family ≡ 2 → ⊥) ⌝ }
     ensures { λ r. ⌜ r ≡ sizeAt family (now (s .entry)) ⌝ }
 {
@@ -47,7 +47,7 @@ fn packet_size(family: u8, s: &[u8]) -> usize
 
 // How long the good sentence at the head is, with n payload bytes behind its first byte; 0 where there
 // is none.
-fn sentence_size(s: &[u8], n: usize) -> usize
+pub(crate) fn sentence_size(s: &[u8], n: usize) -> usize
     requires { ⌜ n ≡ min (length (payloadRun (drop 1 (now s)))) 129 ⌝ }
     ensures { λ r. ⌜ r ≡ sizeAt 2 (now (s .entry)) ⌝ }
 {
@@ -109,7 +109,7 @@ fn first_sentence(s: &[u8], from: usize) -> Place
 }
 
 // The first good frame from a place on.
-pub fn first_place(family: u8, s: &[u8], from: usize) -> Place
+pub(crate) fn first_place(family: u8, s: &[u8], from: usize) -> Place
     ensures { λ r. ⌜ r ≡ placeIn family (now (s .entry)) from ⌝ }
 {
     if family == 2 {

@@ -6,16 +6,19 @@ use Prim.Native.Char.{code}
 use mathlib.Core.Path.{_≡_, refl, sym, ap, _∙_}
 use mathlib.Core.Bool.{Bool, true, false, cond}
 use mathlib.Core.List.{List, [], _∷_}
+use native.Mathlib.Decide.{ℕ-discrete}
 use native.Mathlib.Omega.{arith}
 use lib.Dec.{eqb}
 use lib.ListN.{length, drop, getD}
-use lib.Seq.{getD-drop}
+use lib.Seq.{drop-drop, getD-drop}
 use Rattle.rules.specs.Sentences.{isPayloadByte}
 use Rattle.stream_rules.specs.Heads.{markOf, payloadRun, head}
 use Rattle.head_laws.proofs.Heads.{good-head}
 use Rattle.head_laws.proofs.PacketStarts.{needs-none, good-start}
 use Rattle.head_laws.proofs.SentenceStarts.{no-dollar}
 use Rattle.seek_laws.proofs.Starts.{NotGood}
+use Rattle.lister.specs.Places.{sizeAt}
+use Rattle.lister.proofs.Sizes.{no-size}
 
 module _ (family : ℕ) (spe : family ≡ 2 → ⊥) (bs : List ℕ) where
   -- a good start has three marks
@@ -89,3 +92,33 @@ in-the-run bs j some within = not-dollar (drop j bs) (λ e. dollar (ap (λ (k : 
     dollar e =
         let z : _≡_ {A = ℕ} 0 1 = cc (byte, ap isPayloadByte e, dollar-no-payload) in
         omega arith
+
+-- The same for the starts from a place of some bytes on. A mark in a count's place: none is good here;
+pub over-mark : (family : ℕ) (spe : family ≡ 2 → ⊥) (s : List ℕ) (at : ℕ) → getD s (at + 3) 0 ≡ markOf family
+    → (j : ℕ) → j < 1 → NotGood (head family (drop (at + j) s))
+over-mark family spe s at e j p =
+    let same : at ≡ at + j = omega arith in
+    rw (← same) (no-mark-is-count family spe (drop at s) (getD-drop at s 3 0 ∙ e))
+
+-- none there: neither here, where no frame stands, nor at the next three;
+pub over-four : (family : ℕ) (spe : family ≡ 2 → ⊥) (s : List ℕ) (at : ℕ) → (getD s (at + 3) 0 ≡ markOf family → ⊥) → 0 ≡ sizeAt family (drop at s)
+    → (j : ℕ) → j < 4 → NotGood (head family (drop (at + j) s))
+over-four family spe s at other none j p =
+    elim (ℕ-discrete j 0) [
+      | yes first ↦ let same : at ≡ at + j = omega (arith, first) in rw (← same) (no-size family (drop at s) none)
+      | no later ↦ rw (← drop-drop j at s) (behind-no-mark family spe (drop at s) (λ e. other (sym (getD-drop at s 3 0) ∙ e)) j (omega arith) p)
+    ]
+
+-- another byte than `$`: none here;
+pub over-byte : (s : List ℕ) (at : ℕ) → (getD s at 0 ≡ code "$" → ⊥) → (j : ℕ) → j < 1 → NotGood (head 2 (drop (at + j) s))
+over-byte s at other j p =
+    not-dollar (drop (at + j) s) (λ e. other (ap (λ (k : ℕ). getD s k 0) (omega arith) ∙ sym (getD-drop (at + j) s 0 0) ∙ e))
+
+-- and a `$` with no frame: none here and in the run behind it.
+pub over-run : (s : List ℕ) (at n : ℕ) → n ≤ length (payloadRun (drop 1 (drop at s))) → 0 ≡ sizeAt 2 (drop at s)
+    → (j : ℕ) → j < n + 1 → NotGood (head 2 (drop (at + j) s))
+over-run s at n within none j p =
+    elim (ℕ-discrete j 0) [
+      | yes first ↦ let same : at ≡ at + j = omega (arith, first) in rw (← same) (no-size 2 (drop at s) none)
+      | no later ↦ rw (← drop-drop j at s) (in-the-run (drop at s) j (omega arith) (omega arith))
+    ]

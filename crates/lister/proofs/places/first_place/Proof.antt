@@ -1,11 +1,11 @@
--- `places::first_place` meets its contract: the test of the family picks the walk.
+-- `lister::places::first_place` meets its contract: the test of the family picks the walk.
 -- Assumes nothing.
 use Prim.Native.Nat.{ℕ}
 use mathlib.Core.Path.{sym, ap, _∙_}
 use borrow.Author.Needs.{needs}
-use Rattle.places.specs.Places.{placeIn}
-use Rattle.places.proofs.first_place.Statement.{statement}
-use Rattle.places.proofs.first_place.Tie as tie
+use Rattle.lister.specs.Places.{placeIn}
+use Rattle.lister.proofs.places.first_place.Statement.{statement}
+use Rattle.lister.proofs.places.first_place.Tie as tie
 
 first-sentence-requires : tie.Need-first-sentence-requires
 first-sentence-requires c κs = search needs

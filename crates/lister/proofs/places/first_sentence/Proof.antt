@@ -1,4 +1,4 @@
--- `places::first_sentence` meets its contract. The loop's invariant: no start from `from` on and before `at` is good. The
+-- `lister::places::first_sentence` meets its contract. The loop's invariant: no start from `from` on and before `at` is good. The
 -- measure is what is left of the bytes.
 -- Assumes nothing.
 use Prim.Native.Nat.{ℕ, _+_, _-_, min, _≤_, _<_}
@@ -14,38 +14,18 @@ use Rattle.stream_rules.specs.Heads.{payloadRun, head}
 use Rattle.head_laws.proofs.Lists.{whole-rest}
 use Rattle.seek_laws.proofs.Starts.{NotGood}
 use Rattle.seek_laws.proofs.Walks.{Passed, nothing-passed, passes}
-use Rattle.places.specs.Places.{sizeAt}
-use Rattle.places.proofs.Sizes.{no-size}
-use Rattle.places.proofs.Skips.{not-dollar, in-the-run}
-use Rattle.places.proofs.Firsts.{stops, ends}
-use Rattle.places.proofs.first_sentence.Statement.{statement}
-use Rattle.places.proofs.first_sentence.Tie as tie
+use Rattle.lister.specs.Places.{sizeAt}
+use Rattle.lister.proofs.Sizes.{no-size}
+use Rattle.lister.proofs.Skips.{over-byte, over-run}
+use Rattle.lister.proofs.Firsts.{stops, ends}
+use Rattle.lister.proofs.places.first_sentence.Statement.{statement}
+use Rattle.lister.proofs.places.first_sentence.Tie as tie
 
 abbrev Inv-loop : tie.InvT-loop
 Inv-loop s from at₀ at = Passed (head 2) s from at
 
 abbrev μ-loop : tie.MeasureT-loop
 μ-loop s from at₀ at = length s - at
-
-module _ (s : List ℕ) (from at : ℕ) (passed : Passed (head 2) s from at) where
-  -- another byte than `$`: not good here
-  over-byte : (getD s at 0 ≡ code "$" → ⊥) → Passed (head 2) s from (at + 1)
-  over-byte other = passes (head 2) s from at passed 1 here
-    where
-      here : (j : ℕ) → j < 1 → NotGood (head 2 (drop (at + j) s))
-      here j p =
-          not-dollar (drop (at + j) s) (λ e. other (ap (λ (k : ℕ). getD s k 0) (omega arith) ∙ sym (getD-drop (at + j) s 0 0) ∙ e))
-
-  -- a `$` with no frame, and the run behind it
-  over-run : (n : ℕ) → n ≤ length (payloadRun (drop 1 (drop at s))) → 0 ≡ sizeAt 2 (drop at s) → Passed (head 2) s from (at + (n + 1))
-  over-run n within none = passes (head 2) s from at passed (n + 1) here
-    where
-      here : (j : ℕ) → j < n + 1 → NotGood (head 2 (drop (at + j) s))
-      here j p =
-          elim (ℕ-discrete j 0) [
-            | yes first ↦ rw (← (let z : at ≡ at + j = omega (arith, first) in z)) (no-size 2 (drop at s) none)
-            | no later ↦ rw (← drop-drop j at s) (in-the-run (drop at s) j (omega arith) (omega arith))
-          ]
 
 -- the run behind `at`
 counted : (c : tie.After-payload-bytes Inv-loop μ-loop)
@@ -82,7 +62,7 @@ loop-again : tie.Need-loop-again Inv-loop μ-loop
 loop-again c =
     let a = c .before .before .before .before .before .args in
     let loop = c .before .before .before .loop in
-    over-byte (a .s .now) (a .from) (loop .at) (loop .inv) (c .if1 .taken)
+    passes _ _ _ _ (loop .inv) 1 (over-byte (a .s .now) (loop .at) (c .if1 .taken))
 
 add-payload-bytes : tie.Need-add-payload-bytes Inv-loop μ-loop
 add-payload-bytes c = omega arith
@@ -130,7 +110,7 @@ loop-less-2 c = omega arith
 loop-again-2 : tie.Need-loop-again-2 Inv-loop μ-loop
 loop-again-2 c =
     let loop = c .before .before .before .before .before .before .before .before .loop in
-    over-run (bytes (c .before)) (c .before .before .before .before .before .before .before .before .before .before .args .from) (loop .at) (loop .inv) _ (omega (arith, counted (c .before .before .before))) (sym (c .if2 .left) ∙ size (c .before))
+    passes _ _ _ _ (loop .inv) (c .before .before .before .payload-bytes .result + 1) (over-run (bytes (c .before)) (loop .at) (c .before .before .before .payload-bytes .result) (omega (arith, counted (c .before .before .before))) (sym (c .if2 .left) ∙ size (c .before)))
 
 returns-2 : tie.Need-returns-2 Inv-loop μ-loop
 returns-2 c =

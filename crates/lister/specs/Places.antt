@@ -4,7 +4,7 @@ use mathlib.Core.List.{List}
 use lib.ListN.{drop}
 use Rattle.stream_rules.specs.Heads.{head, atClose}
 use Rattle.stream_rules.specs.Rule.{byHead, look, byLook}
-use Rattle.places.specs.declared.Place.{Place}
+use Rattle.lister.specs.declared.places.Place.{Place}
 
 -- how long the good frame at the head is; 0 where there is none
 abbrev pub sizeAt : ℕ → List ℕ → ℕ

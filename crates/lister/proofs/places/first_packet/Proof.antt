@@ -1,4 +1,4 @@
--- `places::first_packet` meets its contract. The loop's invariant: no start from `from` on and before `at` is good. The
+-- `lister::places::first_packet` meets its contract. The loop's invariant: no start from `from` on and before `at` is good. The
 -- measure is what is left of the bytes.
 -- Assumes nothing.
 use Prim.Native.Nat.{ℕ, _+_, _-_, _<_}
@@ -12,39 +12,18 @@ use lib.Seq.{take-all, drop-drop, getD-drop}
 use Rattle.stream_rules.specs.Heads.{markOf, head}
 use Rattle.seek_laws.proofs.Starts.{NotGood}
 use Rattle.seek_laws.proofs.Walks.{Passed, nothing-passed, passes}
-use Rattle.places.specs.Places.{sizeAt}
-use Rattle.places.proofs.Sizes.{too-short, no-size}
-use Rattle.places.proofs.Skips.{no-mark-is-count, behind-no-mark}
-use Rattle.places.proofs.Firsts.{stops, ends}
-use Rattle.places.proofs.first_packet.Statement.{statement}
-use Rattle.places.proofs.first_packet.Tie as tie
+use Rattle.lister.specs.Places.{sizeAt}
+use Rattle.lister.proofs.Sizes.{too-short, no-size}
+use Rattle.lister.proofs.Skips.{over-mark, over-four}
+use Rattle.lister.proofs.Firsts.{stops, ends}
+use Rattle.lister.proofs.places.first_packet.Statement.{statement}
+use Rattle.lister.proofs.places.first_packet.Tie as tie
 
 abbrev Inv-loop : tie.InvT-loop
 Inv-loop family s from mark at₀ at = Passed (head family) s from at
 
 abbrev μ-loop : tie.MeasureT-loop
 μ-loop family s from mark at₀ at = length s - at
-
-module _ (family : ℕ) (spe : family ≡ 2 → ⊥) (s : List ℕ) (from at : ℕ) (passed : Passed (head family) s from at) where
-  -- a mark in a count's place: not good here
-  over-mark : getD s (at + 3) 0 ≡ markOf family → Passed (head family) s from (at + 1)
-  over-mark e = passes (head family) s from at passed 1 (λ j p. here j p)
-    where
-      here : (j : ℕ) → j < 1 → NotGood (head family (drop (at + j) s))
-      here j p =
-          rw (← (let z : at ≡ at + j = omega arith in z))
-          (no-mark-is-count family spe (drop at s) (getD-drop at s 3 0 ∙ e))
-
-  -- none there: neither here, where no frame stands, nor at the next three
-  over-four : (getD s (at + 3) 0 ≡ markOf family → ⊥) → 0 ≡ sizeAt family (drop at s) → Passed (head family) s from (at + 4)
-  over-four other none = passes (head family) s from at passed 4 here
-    where
-      here : (j : ℕ) → j < 4 → NotGood (head family (drop (at + j) s))
-      here j p =
-          elim (ℕ-discrete j 0) [
-            | yes first ↦ rw (← (let z : at ≡ at + j = omega (arith, first) in z)) (no-size family (drop at s) none)
-            | no later ↦ rw (← drop-drop j at s) (behind-no-mark family spe (drop at s) (λ e. other (sym (getD-drop at s 3 0) ∙ e)) j (omega arith) p)
-          ]
 
 -- what stands at `at`
 module _ (c : tie.After-packet-size Inv-loop μ-loop) where
@@ -91,7 +70,7 @@ loop-again : tie.Need-loop-again Inv-loop μ-loop
 loop-again c =
     let start = c .before .before .before .before .before .before .before in
     let loop = c .before .before .before .before .loop in
-    over-mark (start .args .family) (start .pre) (start .args .s .now) (start .args .from) (loop .at) (loop .inv) (c .if2 .taken ∙ c .before .before .before .before .before .mark-of .ensures)
+    passes _ _ _ _ (loop .inv) 1 (over-mark (start .args .family) (start .pre) (start .args .s .now) (loop .at) (c .if2 .taken ∙ c .before .before .before .before .before .mark-of .ensures))
 
 sub-packet-size : tie.Need-sub-packet-size Inv-loop μ-loop
 sub-packet-size c = omega arith
@@ -119,8 +98,9 @@ loop-less-2 c = omega arith
 loop-again-2 : tie.Need-loop-again-2 Inv-loop μ-loop
 loop-again-2 c =
     let here = c .before in
-    over-four (start here .args .family) (start here .pre) (start here .args .s .now) (start here .args .from) (at here) (here .before .before .before .before .before .before .loop .inv)
-    (λ e. c .before .before .before .if2 .left (e ∙ sym (c .before .before .before .before .before .before .before .before .mark-of .ensures))) (sym (c .if3 .left) ∙ size here)
+    passes _ _ _ _ (here .before .before .before .before .before .before .loop .inv) 4
+    (over-four (start here .args .family) (start here .pre) (start here .args .s .now) (at here)
+    (λ e. c .before .before .before .if2 .left (e ∙ sym (c .before .before .before .before .before .before .before .before .mark-of .ensures))) (sym (c .if3 .left) ∙ size here))
 
 returns-3 : tie.Need-returns-3 Inv-loop μ-loop
 returns-3 c =

@@ -10,9 +10,9 @@ use Rattle.stream_rules.specs.Rule.{Look, byLook}
 use Rattle.seek_laws.proofs.Families.{facts}
 use Rattle.seek_laws.proofs.Starts.{NotGood}
 use Rattle.seek_laws.proofs.Walks.{Passed, first-good, none-left}
-use Rattle.places.specs.Places.{sizeAt, placeIn}
-use Rattle.places.specs.declared.Place.{Place}
-use Rattle.places.proofs.Sizes.{some-size}
+use Rattle.lister.specs.Places.{sizeAt, placeIn}
+use Rattle.lister.specs.declared.places.Place.{Place}
+use Rattle.lister.proofs.Sizes.{some-size}
 
 -- a place with a length, and what a look at the bytes says as one
 abbrev placed : ℕ → ℕ → Place

@@ -1,0 +1,177 @@
+-- `lister::fill_sentences` meets its contract. The loop's invariant: the first n starts stand at the front of the list, and
+-- those of the frames left from `at` on are to come. The measure is what is left of the capture.
+-- Assumes nothing.
+use Prim.Native.Nat.{ℕ, _+_, _-_, min, _≤_, _<_}
+use mathlib.Core.Path.{_≡_, sym, ap, _∙_}
+use native.Mathlib.Omega.{arith}
+use borrow.Author.Needs.{needs}
+use mathlib.Core.List.{List}
+use lib.ListN.{length, drop, length-drop}
+use lib.Seq.{drop-drop}
+use Rattle.stream_rules.specs.Heads.{payloadRun}
+use Rattle.head_laws.proofs.Lists.{whole-rest}
+use Rattle.head_laws.proofs.Runs.{run-within}
+use Rattle.lister.specs.Places.{sizeAt}
+use Rattle.lister.proofs.Skips.{over-byte, over-run}
+use Rattle.lister.proofs.Filling.{Filled, nothing-filled, passed, inside, filled-in, has-room, ends}
+use Rattle.lister.proofs.fill_sentences.Statement.{statement}
+use Rattle.lister.proofs.fill_sentences.Tie as tie
+
+abbrev Inv-loop : tie.InvT-loop
+Inv-loop capture starts₀ at₀ n₀ starts at n = Filled 2 capture starts₀ starts at n
+
+abbrev μ-loop : tie.MeasureT-loop
+μ-loop capture starts₀ at₀ n₀ starts at n = length capture - at
+
+-- the run behind `at`
+counted : (c : tie.After-payload-bytes Inv-loop μ-loop)
+    → c .payload-bytes .result ≡ min (length (payloadRun (drop 1 (drop (c .before .before .before .before .before .loop .at) (c .before .before .before .before .before .before .before .before .args .capture .now))))) 129
+counted c =
+    let s = c .before .before .before .before .before .before .before .before .args .capture .now in
+    let at = c .before .before .before .before .before .loop .at in
+    c .payload-bytes .ensures ∙ ap (λ (l : List ℕ). min (length (payloadRun l)) 129) (whole-rest s (at + 1) ∙ sym (drop-drop 1 at s))
+
+-- what stands at `at`
+module _ (c : tie.Else2 Inv-loop μ-loop) where
+  abbrev start : tie.Start Inv-loop μ-loop
+  start = c .before .before .before .before .before .before .before .before .before .before .before
+
+  abbrev size : ℕ
+  size = c .before .sentence-size .result
+
+  is-size : size ≡ sizeAt 2 (drop (c .before .before .before .before .before .before .before .before .loop .at) (start .args .capture .now))
+  is-size = c .before .sentence-size .ensures ∙ ap (sizeAt 2) (whole-rest (start .args .capture .now) (c .before .before .before .before .before .before .before .before .loop .at))
+
+  within : c .before .before .before .before .before .before .before .before .loop .at + size ≤ length (start .args .capture .now)
+  within = inside _ _ _ _ _ _ (c .before .before .before .before .before .before .before .before .loop .inv) size is-size (c .if2 .left)
+
+loop-holds : tie.Need-loop-holds Inv-loop μ-loop
+loop-holds c = nothing-filled _ _ _
+
+shared-slice-read-if1 : tie.Need-shared-slice-read-if1 Inv-loop μ-loop
+shared-slice-read-if1 c = omega arith
+
+add-at : tie.Need-add-at Inv-loop μ-loop
+add-at c = omega arith
+
+loop-less : tie.Need-loop-less Inv-loop μ-loop
+loop-less c = omega arith
+
+loop-again : tie.Need-loop-again Inv-loop μ-loop
+loop-again c =
+    let a = c .before .before .before .before .before .before .args in
+    let loop = c .before .before .before .loop in
+    passed _ _ _ _ _ _ (loop .inv) 1 (omega arith) (over-byte (a .capture .now) (loop .at) (c .if1 .taken))
+
+add-payload-bytes : tie.Need-add-payload-bytes Inv-loop μ-loop
+add-payload-bytes c = omega arith
+
+sub-payload-bytes : tie.Need-sub-payload-bytes Inv-loop μ-loop
+sub-payload-bytes c = omega arith
+
+part-payload-bytes-start : tie.Need-part-payload-bytes-start Inv-loop μ-loop
+part-payload-bytes-start c = omega arith
+
+part-payload-bytes-end : tie.Need-part-payload-bytes-end Inv-loop μ-loop
+part-payload-bytes-end c = omega arith
+
+payload-bytes-requires : tie.Need-payload-bytes-requires Inv-loop μ-loop
+payload-bytes-requires c κs = search needs
+
+sub-sentence-size : tie.Need-sub-sentence-size Inv-loop μ-loop
+sub-sentence-size c = omega arith
+
+part-sentence-size-start : tie.Need-part-sentence-size-start Inv-loop μ-loop
+part-sentence-size-start c = omega arith
+
+part-sentence-size-end : tie.Need-part-sentence-size-end Inv-loop μ-loop
+part-sentence-size-end c = omega arith
+
+sentence-size-requires : tie.Need-sentence-size-requires Inv-loop μ-loop
+sentence-size-requires c κs =
+    counted (c .before)
+    ∙ ap (λ (l : List ℕ). min (length (payloadRun (drop 1 l))) 129) (sym (whole-rest (c .before .before .before .before .before .before .before .before .before .args .capture .now) (c .before .before .before .before .before .before .loop .at)))
+
+add-at-2 : tie.Need-add-at-2 Inv-loop μ-loop
+add-at-2 c = omega arith
+
+add-at-3 : tie.Need-add-at-3 Inv-loop μ-loop
+add-at-3 c = omega arith
+
+loop-less-2 : tie.Need-loop-less-2 Inv-loop μ-loop
+loop-less-2 c = omega arith
+
+loop-again-2 : tie.Need-loop-again-2 Inv-loop μ-loop
+loop-again-2 c =
+    let a = c .before .before .before .before .before .before .before .before .before .before .before .args in
+    let loop = c .before .before .before .before .before .before .before .before .loop in
+    let run = c .before .before .before in
+    let behind = drop 1 (drop (loop .at) (a .capture .now)) in
+    passed _ _ _ _ _ _ (loop .inv) (run .payload-bytes .result + 1)
+    (omega (arith, counted run, run-within behind, length-drop 1 (drop (loop .at) (a .capture .now)), length-drop (loop .at) (a .capture .now)))
+    (over-run (a .capture .now) (loop .at) (run .payload-bytes .result) (omega (arith, counted run))
+    (sym (c .if2 .taken) ∙ c .before .sentence-size .ensures ∙ ap (sizeAt 2) (whole-rest (a .capture .now) (loop .at))))
+
+cast-starts : tie.Need-cast-starts Inv-loop μ-loop
+cast-starts c = omega (arith, within c, start c .pre .0)
+
+mul-starts : tie.Need-mul-starts Inv-loop μ-loop
+mul-starts c = omega (arith, within c, start c .pre .0, c .before .before .before .before .before .before .before .before .loop .inv .few)
+
+slice-write-starts : tie.Need-slice-write-starts Inv-loop μ-loop
+slice-write-starts c = has-room _ _ _ _ _ _ (c .before .before .before .before .before .before .before .before .loop .inv) (size c) (is-size c) (c .if2 .left) (start c .pre .1)
+
+add-n : tie.Need-add-n Inv-loop μ-loop
+add-n c = omega (arith, within c, start c .pre .0, c .before .before .before .before .before .before .before .before .loop .inv .few)
+
+add-at-4 : tie.Need-add-at-4 Inv-loop μ-loop
+add-at-4 c = omega (arith, within c, start c .pre .0)
+
+loop-less-3 : tie.Need-loop-less-3 Inv-loop μ-loop
+loop-less-3 c = omega (arith, within c, c .if2 .left)
+
+loop-again-3 : tie.Need-loop-again-3 Inv-loop μ-loop
+loop-again-3 c = filled-in _ _ _ _ _ _ (c .before .before .before .before .before .before .before .before .loop .inv) (size c) (is-size c) (c .if2 .left) (start c .pre .1)
+
+same-length : tie.Need-same-length Inv-loop μ-loop
+same-length c = c .before .loop .inv .same
+
+returns : tie.Need-returns Inv-loop μ-loop
+returns c =
+    let a = c .before .before .before .before .args in
+    let loop = c .before .loop in
+    ends 2 (a .capture .now) (a .starts .now) (loop .starts) (loop .at) (loop .n) (loop .inv) (λ j on p. absurd (omega (arith, c .loop-test .left)))
+
+pub fill-sentences-spec : {M : Type 1} → statement M
+fill-sentences-spec =
+    tie.close
+    (tie.spec
+    Inv-loop
+    μ-loop
+    loop-holds
+    shared-slice-read-if1
+    add-at
+    loop-less
+    loop-again
+    add-payload-bytes
+    sub-payload-bytes
+    part-payload-bytes-start
+    part-payload-bytes-end
+    payload-bytes-requires
+    sub-sentence-size
+    part-sentence-size-start
+    part-sentence-size-end
+    sentence-size-requires
+    add-at-2
+    add-at-3
+    loop-less-2
+    loop-again-2
+    cast-starts
+    mul-starts
+    slice-write-starts
+    add-n
+    add-at-4
+    loop-less-3
+    loop-again-3
+    same-length
+    returns)

@@ -1,2 +1,0 @@
--- `Places` says where the first good frame stands.
-pub mod Places
