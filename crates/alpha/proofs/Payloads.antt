@@ -17,7 +17,7 @@ use Rattle.rules.specs.declared.Frame.the-variants.{Apa02, Apa03, Apa05, Other}
 use Rattle.rules.specs.declared.Reading.the-variants.{Good}
 use Rattle.laws.proofs.Bytes.{one-by-one}
 use Rattle.laws.proofs.Sentences.{given-by-digits}
-use Rattle.leaves.specs.Leaves.{digitsIn}
+use Rattle.numbers.specs.Fields.{digitsIn}
 use Rattle.leaves.proofs.Steps.{at as from-place}
 use Rattle.alpha.specs.Fields.{Text}
 use Rattle.alpha.specs.Held.{held}

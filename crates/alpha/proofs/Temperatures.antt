@@ -16,8 +16,8 @@ use borrow.Author.Tests.{eq-eqb, ne-eqb}
 use Rattle.rules.specs.Bytes.{ascii, oneOf, part, every, first}
 use Rattle.rules.specs.Numbers.{isDigit, decimal, decimalFrom}
 use Rattle.rules.specs.Sentences.{isDecimal, isTemperature, temperature, whole, tenth}
-use Rattle.leaves.specs.Leaves.{digitsIn}
-use Rattle.leaves.specs.declared.Number.{Number}
+use Rattle.numbers.specs.Fields.{digitsIn}
+use Rattle.numbers.specs.declared.Number.{Number}
 use Rattle.laws.proofs.Bytes.{both}
 use Rattle.laws.proofs.Numbers.{decimal-from}
 use Rattle.commas.specs.Commas.{upTo, endAt}

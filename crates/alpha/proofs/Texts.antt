@@ -14,8 +14,8 @@ use Rattle.rules.specs.Numbers.{isDigit, decimal, isHexDigit, hexNumber}
 use Rattle.rules.specs.Sentences.{isDecimal, isHexField}
 use Rattle.laws.proofs.Bytes.{both}
 use Rattle.laws.proofs.Numbers.{decimal-below}
-use Rattle.leaves.specs.Leaves.{digitsIn}
-use Rattle.leaves.specs.declared.Number.{Number}
+use Rattle.numbers.specs.Fields.{digitsIn}
+use Rattle.numbers.specs.declared.Number.{Number}
 use Rattle.leaves.proofs.Steps.{at as from-place}
 use Rattle.hex.specs.Hex.{pairIn}
 use Rattle.hex.specs.declared.HexByte.{HexByte}

@@ -37,7 +37,7 @@ fn decimal_at(r: &[u8], a: usize, w: usize) -> DecimalField
     if w < end - from {
         return none;
     }
-    let n = leaves::digits(&r[from..end]);
+    let n = numbers::digits(&r[from..end]);
     DecimalField {
         good: n.good,
         count: n.count,
@@ -167,8 +167,8 @@ fn degrees_in(t: &[u8]) -> Degrees
     if 6 < n {
         return none;
     }
-    let whole = leaves::digits(&t[1..n - 2]);
-    let tenth = leaves::digits(&t[n - 1..]);
+    let whole = numbers::digits(&t[1..n - 2]);
+    let tenth = numbers::digits(&t[n - 1..]);
     let sign = leaves::one_of(b"+-", t[0]);
     if !(sign & whole.good & (t[n - 2] == b'.') & tenth.good) {
         return none;

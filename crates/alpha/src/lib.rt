@@ -75,7 +75,7 @@ fn is_named(p: &[u8]) -> bool
     ensures { λ r. ⌜ r ≡ isNamed (now (p .entry)) ⌝ }
 {
     let letters = leaves::same_bytes(&p[..3], b"APA");
-    let number = leaves::digits(&p[3..5]);
+    let number = numbers::digits(&p[3..5]);
     if p.len() == 5 {
         return letters & number.good;
     }
@@ -114,7 +114,7 @@ fn read_payload(p: &[u8]) -> Reading
     requires { ⌜ (5 ≤ length (now p)) × (every isDigit (part 3 2 (now p)) ≡ true) ⌝ }
     ensures { λ r. ⌜ r ≡ readTexts (numberOf (now (p .entry))) (textsOf (now (p .entry))) ⌝ }
 {
-    let number = leaves::digits(&p[3..5]);
+    let number = numbers::digits(&p[3..5]);
     let n = number.count;
     let r = &p[5..];
     match n {

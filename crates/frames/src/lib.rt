@@ -25,7 +25,7 @@ pub fn is_good(family: u8, bytes: &[u8]) -> bool
     ensures { λ r. ⌜ r ≡ isGood (readOne family (now (bytes .entry))) ⌝ }
 {
     if family == 1 {
-        return spe_tests::is_ack(bytes) || spe_tests::is_status(bytes);
+        return spe_tests::is_ack(bytes) || status_tests::is_status(bytes);
     }
     if family == 2 {
         return alpha::is_sentence(bytes);

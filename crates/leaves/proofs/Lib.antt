@@ -1,4 +1,2 @@
--- `Steps` has what a loop over a list needs: its next element, and its end. `Rows` has what the readers of numbers need. `Laws` has what a caller learns of a text.
+-- `Steps` has what a loop over a list needs: its next element, and its end.
 pub mod Steps
-pub mod Rows
-pub mod Laws

@@ -8,7 +8,7 @@ use Rattle.rules.specs.Bytes.{same}
 use Rattle.rules.specs.Status.{dataOf, joined, cut, widths, readable, statusInRange, statusOf, isStatus}
 use Rattle.rules.specs.declared.Frame.the-variants.{Status}
 use Rattle.rules.specs.declared.Reading.the-variants.{Good, Refused}
-use Rattle.spe_tests.proofs.Frames.{framed}
+use Rattle.status_tests.proofs.Frames.{framed}
 use Rattle.spe.specs.Report.{reportIn}
 
 -- the four tests of a report, in their order

@@ -1,16 +1,16 @@
 // Reads one frame of an SPE amplifier: a reply of family 1, or a command of family 3.
-use leaves::one_digit;
-use leaves::padded_number;
-use leaves::pointed_number;
 use leaves::text;
-use leaves::two_digits;
+use numbers::one_digit;
+use numbers::padded_number;
+use numbers::pointed_number;
+use numbers::two_digits;
 use rules::Frame;
 use rules::Reading;
 use rules::Status;
 use spe_rules::status_in_range;
 use spe_tests::is_ack;
 use spe_tests::is_command;
-use spe_tests::is_report;
+use status_tests::is_report;
 ghost use mathlib.Core.Path.{_≡_};
 ghost use lib.ListN.{length};
 ghost use Rattle.rules.specs.Bytes.{same};

@@ -1,17 +1,13 @@
--- When bytes are a packet, an acknowledgement, a command or a report's frame: by their length.
+-- When bytes are a packet, an acknowledgement or a command: by their length.
 -- Assumes nothing.
-use Prim.Native.Nat.{ℕ, _%_, _/_}
+use Prim.Native.Nat.{ℕ}
 use mathlib.Core.Path.{_≡_, ap}
 use mathlib.Core.Bool.{Bool, true, false, _&&_}
-use mathlib.Core.List.{List, [], _∷_}
+use mathlib.Core.List.{List}
 use native.Mathlib.Decide.{ℕ-discrete}
 use native.Mathlib.Omega.{arith}
-use lib.ListN.{length, drop, getD, length-append, length-take, length-drop}
-use lib.Seq.{length-take-le}
-use Rattle.rules.specs.Bytes.{same, total}
+use lib.ListN.{length, getD}
 use Rattle.rules.specs.Codes.{isPacket, packet, isCode, isAckCode, isAck, isCommand}
-use Rattle.rules.specs.Status.{statusFrame, dataOf}
-use Rattle.laws.proofs.Bytes.{same-eq}
 use Rattle.laws.proofs.Lists.{lengths-differ}
 
 -- a packet is six bytes
@@ -33,22 +29,3 @@ six-bytes test s never e =
       | yes six ↦ six
       | no other ↦ let z : _≡_ {A = ℕ} 0 1 = cc (never other) in absurd (omega arith)
     ]
-
-abbrev pub framed : List ℕ → Bool
-framed s = same s (statusFrame (dataOf s))
-
--- a frame around its own data is 75 bytes, so its data is 67
-frame-length : (s : List ℕ) → length s ≡ length (statusFrame (dataOf s)) → length s ≡ 75
-unfolding statusFrame
-frame-length s e =
-    let ends = total (dataOf s) % 256 ∷ total (dataOf s) / 256 ∷ 0x0D ∷ 0x0A ∷ [] in
-    omega (arith, e, length-append (dataOf s) ends, length-take 67 (drop 4 s), length-drop 4 s)
-
-pub not-framed : (s : List ℕ) → (length s ≡ 75 → ⊥) → framed s ≡ false
-not-framed s h = lengths-differ s (statusFrame (dataOf s)) (λ e. h (frame-length s e))
-
-pub data-length : (s : List ℕ) → length s ≡ 75 → length (dataOf s) ≡ 67
-data-length s h = length-take-le 67 (drop 4 s) (omega (arith, length-drop 4 s))
-
-pub framed-data : (s : List ℕ) → framed s ≡ true → length (dataOf s) ≡ 67
-framed-data s t = data-length s (frame-length s (ap length (same-eq s (statusFrame (dataOf s)) t)))

@@ -1,6 +1,2 @@
--- `Frames` has when bytes are a packet or a report's frame. `Texts` has the rules of one field as tests of its bytes, `Bounds`
--- the bounds of all bytes field by field, and `Data` puts them together: the rules of the data are the tests.
+-- `Frames` has when bytes are a packet.
 pub mod Frames
-pub mod Texts
-pub mod Bounds
-pub mod Data

@@ -13,9 +13,9 @@ use Rattle.rules.specs.Bytes.{every, first, part}
 use Rattle.rules.specs.Numbers.{isDigit, decimal, decimalFrom}
 use Rattle.laws.proofs.Bytes.{tests}
 use Rattle.laws.proofs.Lists.{elements, part-elements}
-use Rattle.leaves.specs.Leaves.{digitIn, twoDigitsIn}
-use Rattle.leaves.specs.declared.Digit.{Digit}
-use Rattle.leaves.proofs.Laws.{one-good, one-value, two-good, two-value}
+use Rattle.numbers.specs.Fields.{digitIn, twoDigitsIn}
+use Rattle.numbers.specs.declared.Digit.{Digit}
+use Rattle.numbers.proofs.Laws.{one-good, one-value, two-good, two-value}
 use Rattle.spe.specs.Report.{FrontOf}
 use Rattle.spe.specs.declared.Front.{Front}
 use Rattle.spe.proofs.read_front.Statement.{statement}

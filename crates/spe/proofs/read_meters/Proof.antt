@@ -11,9 +11,9 @@ use lib.Seq.{length-take-le}
 use Rattle.rules.specs.Bytes.{part}
 use Rattle.rules.specs.Numbers.{padded, pointed}
 use Rattle.laws.proofs.Bytes.{tests}
-use Rattle.leaves.specs.Leaves.{paddedIn, pointedIn}
-use Rattle.leaves.specs.declared.Number.{Number}
-use Rattle.leaves.proofs.Laws.{padded-good, padded-count, pointed-good, pointed-count}
+use Rattle.numbers.specs.Fields.{paddedIn, pointedIn}
+use Rattle.numbers.specs.declared.Number.{Number}
+use Rattle.numbers.proofs.Laws.{padded-good, padded-count, pointed-good, pointed-count}
 use Rattle.spe.specs.Report.{MetersOf}
 use Rattle.spe.specs.declared.Meters.{Meters}
 use Rattle.spe.proofs.read_meters.Statement.{statement}

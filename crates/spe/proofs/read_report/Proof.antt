@@ -13,7 +13,7 @@ use Rattle.rules.specs.Status.{dataOf, joined, cut, widths, readable, statusInR
 use Rattle.rules.specs.declared.Status as StatusType
 use Rattle.rules.specs.declared.Frame.the-variants.{Status}
 use Rattle.rules.specs.declared.Reading.the-variants.{Good}
-use Rattle.spe_tests.proofs.Frames.{framed, framed-data}
+use Rattle.status_tests.proofs.Frames.{framed, framed-data}
 use Rattle.spe.proofs.Frames.{not-a-frame, no-commas, unreadable, out-of-range, a-report, commas}
 use Rattle.spe.proofs.read_report.Statement.{statement}
 use Rattle.spe.proofs.read_report.Tie as tie
