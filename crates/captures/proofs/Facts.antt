@@ -1,17 +1,19 @@
 -- What `next` promises follows from what `find` and `text` promise: the part is the span's, and it stands at the span's start.
+-- And what is promised leaves the place unchanged where the part is empty.
 -- Assumes nothing.
 use Prim.Native.Nat.{ℕ, _+_}
-use mathlib.Core.Path.{_≡_, refl, ap, subst, _∙_}
+use mathlib.Core.Path.{_≡_, refl, sym, ap, subst, _∙_}
 use mathlib.Core.Bool.{Bool}
 use mathlib.Core.List.{List}
+use lib.ListN.{length}
 use denote.Ref.{RefT, ptr, now}
 use Rattle.rules.specs.Bytes.{part, PartOf}
 use Rattle.leaves.specs.Leaves.{placeIn}
 use Rattle.finds.specs.Finds.{nextIn}
 use Rattle.finds.specs.declared.Span.{Span}
-use Rattle.finds.proofs.Spans.{spanned}
+use Rattle.finds.proofs.Spans.{spanned, unmoved as still}
 use Rattle.captures.specs.declared.CaptureReader.{CaptureReader}
-use Rattle.captures.specs.Captures.{PartAt, Gives}
+use Rattle.captures.specs.Captures.{PartAt, GivesAt, Gives}
 
 -- what `text` promises of the part that a span is
 abbrev pub TextOf : RefT (List ℕ) → Span → RefT (List ℕ) → Type 0
@@ -37,3 +39,11 @@ module _ (family : ℕ) (reports : Bool) (h : CaptureReader) (r : RefT (List ℕ
     gives = record { frame = part-at (subst (λ (x : Span). TextOf (h .capture) x r) e p); reached = ap (λ (x : Span). x .behind) e };
     same-capture = refl;
   }
+
+-- Where the part is empty, the place is unchanged.
+pub unmoved : (family : ℕ) (reports : Bool) (capture : RefT (List ℕ)) (place place′ : ℕ) (r : RefT (List ℕ))
+    → GivesAt family reports capture place place′ r → length (now r) ≡ 0 → place′ ≡ place
+unmoved family reports capture place place′ r given none =
+    given .reached
+    ∙ still (now capture) place (nextIn family (now capture) place reports) (spanned family (now capture) place reports)
+    (ap length (sym (given .frame .content)) ∙ none)

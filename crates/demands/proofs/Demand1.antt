@@ -1,15 +1,16 @@
--- Demand 1's numbers. Every promise with refusals states their numbers and their order itself, in a clause `says`. Here is
--- the reader of one frame, whose number 8 speaks of the good frames of demand 2; and the numbers of the writers. Each is
--- about whatever meets a promise. Assumes nothing.
+-- Demand 1's numbers. The promises of the readers, the writers, the lister and the streams state their numbers and their
+-- order themselves, in a clause `says`. Here is the reader of one frame, whose number 8 speaks of the good frames of demand 2;
+-- the numbers of the writers; and that a list is as before where it is refused. Each is about whatever meets a promise.
+-- Assumes nothing.
 use Prim.Native.Nat.{ℕ}
 use mathlib.Core.Path.{_≡_, refl, sym, ap, _∙_}
-use mathlib.Core.Bool.{Bool, true, false, cond, not}
-use mathlib.Core.List.{List, [], _∷_}
+use mathlib.Core.Bool.{Bool, true, false, _&&_, cond, not}
+use mathlib.Core.List.{List, [], _∷_, _++_}
 use mathlib.Core.Logic.{_↔_}
 use native.Mathlib.Omega.{arith}
 use lib.Dec.{leb}
 use lib.IntN.{pos}
-use lib.ListN.{length}
+use lib.ListN.{length, drop}
 use Rattle.rules.specs.Answers.{lengthWritten, Says, no, yes, noFamily, noCode, noRecord, noRoom, notGood, kindOf, values, said, saidToWrite, valuesOr8, readOne, isFamily, allowed, bytesOf, notAllowed, Reads, Writes}
 use Rattle.rules.specs.declared.Frame.{Frame}
 use Rattle.rules.specs.declared.Frame.the-variants.{Ack, Status, Command, Apa02, Apa03, Apa05, Other}
@@ -19,6 +20,9 @@ use Rattle.rules.specs.declared.Sentence03.{Sentence03}
 use Rattle.rules.specs.declared.Sentence05.{Sentence05}
 use Rattle.rules.specs.declared.Reading.{Reading}
 use Rattle.rules.specs.declared.Written.{Written}
+use Rattle.stream_rules.specs.Lister.{frames, startsOf, fits, tooLong, Lists}
+use Rattle.stream_rules.specs.declared.Listed.{Listed}
+use Rattle.stream_rules.specs.declared.Listed.the-variants.{Count, Refused}
 use Rattle.promises.proofs.Demand2.{IsOne, exact, nothing-else}
 
 module _ (family : ℕ) (bs : List ℕ) (answer : Reading) (reads : Reads family bs answer) where
@@ -78,3 +82,20 @@ write-no f out answer after w = (λ e. back (allowed f) (leb (length (bytesOf f)
     back false room e = refl
     back true false e = absurd (not-4 f (sym (ap number e)))
     back true true e = absurd (not-0 f (sym (ap number e)))
+
+-- A lister that refuses leaves the list as it was.
+pub list-as-before : (family : ℕ) (capture out : List ℕ) (n : ℕ) (after : List ℕ) → Lists family capture out (Refused n) after → after ≡ out
+list-as-before family capture out n after lists =
+    lists .content
+    ∙ case (isFamily family) (fits capture) (leb (length (frames family capture)) (length out)) (lists .answers)
+  where
+    found : List ℕ
+    found = startsOf (frames family capture) ++ drop (length (frames family capture)) out
+
+    case : (known short room : Bool)
+        → Refused n ≡ cond (not known) (Refused noFamily) (cond (not short) (Refused tooLong) (cond (not room) (Refused noRoom) (Count (length (frames family capture)))))
+        → cond (known && short && room) found out ≡ out
+    case false short room e = refl
+    case true false room e = refl
+    case true true false e = refl
+    case true true true e = let z : _≡_ {A = ℕ} 0 1 = cc in absurd (omega arith)

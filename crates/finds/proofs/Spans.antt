@@ -9,7 +9,7 @@ use mathlib.Core.Logic.{_⊎_, inl, inr}
 use native.Mathlib.Omega.{arith}
 use borrow.Author.Tests.{lt-ltb}
 use lib.Dec.{leb, ltb}
-use lib.ListN.{length, drop, length-take}
+use lib.ListN.{length, drop, length-take, length-drop}
 use Rattle.rules.specs.Bytes.{part}
 use Rattle.rules.specs.Answers.{isFamily}
 use Rattle.stream_rules.specs.Lister.{fits}
@@ -21,15 +21,25 @@ use Rattle.lister.proofs.Walk.{left, Next, next, no-next, at-end}
 use Rattle.finds.specs.declared.Span.{Span}
 use Rattle.finds.specs.Finds.{isReport, nothing, firstWanted, nextIn}
 
--- A part of the bytes from the span's start on stands at that start. Either the part is empty, or the place reached is further
--- on, and not past the end.
+-- A part of the bytes from the span's start on stands at that start. Either it is empty and the place unchanged, or the place
+-- reached is just behind it, further on, and not past the end.
+pub record Stays (place : ℕ) (s : Span) : Type 0 where
+  pub none : s .size ≡ 0
+  pub unchanged : s .behind ≡ place
+
+pub record GoesOn (bs : List ℕ) (place : ℕ) (s : Span) : Type 0 where
+  pub some : 0 < s .size
+  pub just-behind : s .behind ≡ s .start + s .size
+  pub further : place < s .behind
+  pub inside : s .behind ≤ length bs
+
 pub record Spanned (bs : List ℕ) (place : ℕ) (s : Span) : Type 0 where
   pub stands : placeIn (s .start) bs ≡ s .start
-  pub onward : (s .size ≡ 0) ⊎ ((place < s .behind) × (s .behind ≤ length bs))
+  pub onward : Stays place s ⊎ GoesOn bs place s
 
 module _ (family : ℕ) (bs : List ℕ) (place : ℕ) (reports : Bool) where
   none-spanned : Spanned bs place (nothing place)
-  none-spanned = record { stands = case (ltb 0 (length bs)); onward = inl refl }
+  none-spanned = record { stands = case (ltb 0 (length bs)); onward = inl (record { none = refl; unchanged = refl }) }
     where
       case : (b : Bool) → _≡_ {A = ℕ} (cond b 0 0) 0
       case true = refl
@@ -43,7 +53,7 @@ module _ (family : ℕ) (bs : List ℕ) (place : ℕ) (reports : Bool) where
       → (wanted : Bool) → Spanned bs place (cond wanted (record { start = start; size = size; behind = start + size }) on)
   one-spanned start size on some later there rest true = record {
     stands = rw (lt-ltb start (length bs) (omega (arith, some, there)));
-    onward = inr (omega (arith, some, later), there);
+    onward = inr (record { some = some; just-behind = refl; further = omega (arith, some, later); inside = there });
   }
   one-spanned start size on some later there rest false = rest
 
@@ -80,11 +90,20 @@ module _ (family : ℕ) (bs : List ℕ) (place : ℕ) (reports : Bool) where
       case true = from-there (suc (length bs)) place (omega arith) (omega arith)
       case false = none-spanned
 
--- So where the part shows something, the place reached is further on.
+-- So where the part is empty the place is unchanged,
+pub unmoved : (bs : List ℕ) (place : ℕ) (s : Span) → Spanned bs place s → length (part (s .start) (s .size) bs) ≡ 0 → s .behind ≡ place
+unmoved bs place s spans none = case (spans .onward)
+  where
+    case : Stays place s ⊎ GoesOn bs place s → s .behind ≡ place
+    case (inl stays) = stays .unchanged
+    case (inr on) =
+        absurd (omega (arith, length-take (s .size) (drop (s .start) bs), length-drop (s .start) bs, none, on .some, on .just-behind, on .inside))
+
+-- and where it shows something the place reached is further on.
 pub advances : (bs : List ℕ) (place : ℕ) (s : Span) → Spanned bs place s → (length (part (s .start) (s .size) bs) ≡ 0 → ⊥)
     → (place < s .behind) × (s .behind ≤ length bs)
 advances bs place s spans some = case (spans .onward)
   where
-    case : (s .size ≡ 0) ⊎ ((place < s .behind) × (s .behind ≤ length bs)) → (place < s .behind) × (s .behind ≤ length bs)
-    case (inl none) = absurd (some (omega (arith, length-take (s .size) (drop (s .start) bs), none)))
-    case (inr on) = on
+    case : Stays place s ⊎ GoesOn bs place s → (place < s .behind) × (s .behind ≤ length bs)
+    case (inl stays) = absurd (some (omega (arith, length-take (s .size) (drop (s .start) bs), stays .none)))
+    case (inr on) = (on .further, on .inside)

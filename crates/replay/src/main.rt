@@ -4,7 +4,7 @@ use printing::print_replay;
 use std::num::wrapping_sub_u8;
 
 fn main() {
-    let mut input = printing::input_buffer();
+    let mut input = room::input_buffer();
     let n = io::read_full(libc::STDIN_FILENO, &mut input);
     if n == 0 {
         show::print_refused(1);

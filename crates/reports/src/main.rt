@@ -12,7 +12,7 @@ use stream_rules::Reader;
 use stream_rules::Ready;
 
 fn main() {
-    let mut input = printing::input_buffer();
+    let mut input = room::input_buffer();
     let n = io::read_full(libc::STDIN_FILENO, &mut input);
     if n == 0 {
         show::print_refused(1);
