@@ -10,7 +10,7 @@ use lib.ListN.{length, drop, getD, length-append, length-take, length-drop}
 use lib.Seq.{length-take-le}
 use Rattle.rules.specs.Bytes.{same, total}
 use Rattle.rules.specs.Codes.{isPacket, packet, isCode, isAckCode, isAck, isCommand}
-use Rattle.rules.specs.Status.{statusFrame, dataOf}
+use Rattle.rules.specs.Status.{statusFrame, dataOf, joined, cut, widths, readable, statusInRange, statusOf, isStatus}
 use Rattle.laws.proofs.Bytes.{same-eq}
 use Rattle.laws.proofs.Lists.{lengths-differ}
 
@@ -46,6 +46,12 @@ frame-length s e =
 
 pub not-framed : (s : List ℕ) → (length s ≡ 75 → ⊥) → framed s ≡ false
 not-framed s h = lengths-differ s (statusFrame (dataOf s)) (λ e. h (frame-length s e))
+
+pub not-status : (s : List ℕ) → (length s ≡ 75 → ⊥) → isStatus s ≡ false
+unfolding isStatus
+not-status s h =
+    let d = dataOf s in
+    ap (λ b. b && same d (joined (cut 0 widths d)) && readable d && statusInRange (statusOf d)) (not-framed s h)
 
 pub data-length : (s : List ℕ) → length s ≡ 75 → length (dataOf s) ≡ 67
 data-length s h = length-take-le 67 (drop 4 s) (omega (arith, length-drop 4 s))
