@@ -15,23 +15,23 @@ use Rattle.stream_rules.specs.Rule.{Found, rule, byHead}
 use Rattle.stream_rules.specs.Lister.{frames, startsOf}
 use Rattle.head_laws.proofs.Heads.{good-head}
 use Rattle.seek_laws.proofs.Families.{facts}
-use Rattle.seek_laws.proofs.Starts.{NotGood, NoneGoodBefore, rule-skips, rule-at-good}
+use Rattle.seek_laws.proofs.Starts.{NotGood, rule-skips, rule-at-good}
 use Rattle.lister.specs.Fills.{Fills}
-use Rattle.lister.specs.Places.{sizeAt}
-use Rattle.lister.proofs.Sizes.{some-size}
+use Rattle.lister.specs.Sizes.{sizeAt, Passes}
+use Rattle.lister.proofs.Sizes.{too-short, some-size, no-size}
 use Rattle.lister.proofs.Walk.{left, at-end}
 
 -- all starts of a capture
 abbrev pub all : ℕ → List ℕ → List ℕ
 all family bs = startsOf (frames family bs)
 
--- n starts of the list are filled in, and those of what is left from `at` on are to come
+-- n starts are found, and filled in where the list has places for them; those of what is left from `at` on are to come
 pub record Filled (family : ℕ) (bs out₀ out : List ℕ) (at n : ℕ) : Type 0 where
   pub within : at ≤ length bs
   pub few : n ≤ at
   pub some : n ≤ length (all family bs)
   pub come : startsOf (left family bs at) ≡ drop n (all family bs)
-  pub front : out ≡ take n (all family bs) ++ drop n out₀
+  pub front : n ≤ length out₀ → out ≡ take n (all family bs) ++ drop n out₀
   pub same : length out ≡ length out₀
 
 -- one element more of s laid over the front of d
@@ -57,8 +57,8 @@ same-starts h zero at j k (b ∷ bs) = by (h (b ∷ bs)) (same-starts h zero (su
 
 module _ (family : ℕ) (bs out₀ out : List ℕ) (at n : ℕ) (filled : Filled family bs out₀ out at n) where
   -- over k starts that are not good nothing is filled in
-  pub passed : (k : ℕ) → at + k ≤ length bs → ((j : ℕ) → j < k → NotGood (head family (drop (at + j) bs))) → Filled family bs out₀ out (at + k) n
-  passed k there none = record {
+  over : (k : ℕ) → at + k ≤ length bs → ((j : ℕ) → j < k → NotGood (head family (drop (at + j) bs))) → Filled family bs out₀ out (at + k) n
+  over k there none = record {
     within = there;
     few = omega (arith, filled .few);
     some = filled .some;
@@ -69,6 +69,14 @@ module _ (family : ℕ) (bs out₀ out : List ℕ) (at n : ℕ) (filled : Filled
     front = filled .front;
     same = filled .same;
   }
+
+  -- so a walk may pass over them
+  pub passed : (to : ℕ) → Passes family bs at to → Filled family bs out₀ out to n
+  passed to p =
+      let there : at + (to - at) ≡ to = omega (arith, p .on) in
+      rw there at
+      (over (to - at) (omega (arith, p .on, p .within))
+      (λ j q. no-size family (drop (at + j) bs) (p .none (at + j) (omega arith) (omega (arith, p .on)))))
 
   -- a good frame here: there is one more start than n, and it is this one
   module _ (size : ℕ) (e : size ≡ sizeAt family (drop at bs)) (some-bytes : size ≡ 0 → ⊥) where
@@ -91,21 +99,18 @@ module _ (family : ℕ) (bs out₀ out : List ℕ) (at n : ℕ) (filled : Filled
     is-start : getD (all family bs) n 0 ≡ at
     is-start = ap (λ (k : ℕ). getD (all family bs) k 0) (sym (add-zero n)) ∙ sym (getD-drop n (all family bs) 0 0) ∙ ap (λ (l : List ℕ). getD l 0 0) split
 
-    pub filled-in : length (frames family bs) ≤ length out₀ → Filled family bs out₀ (set out n at) (at + size) (n + 1)
-    filled-in room = record {
+    pub filled-in : Filled family bs out₀ (set out n at) (at + size) (n + 1)
+    filled-in = record {
       within = inside;
       few = omega (arith, filled .few, good-head family (drop at bs) size (here .0) (here .1) .some);
       some = omega (arith, one-more);
       come = sym (ap (drop 1) split) ∙ drop-drop 1 n (all family bs);
-      front = (λ i. set (filled .front i) n (sym is-start i))
-          ∙ store (all family bs) out₀ n one-more (omega (arith, one-more, length-map (frames family bs) (λ (x : Found). x .start)))
+      front = λ room.
+          (λ i. set (filled .front (omega arith) i) n (sym is-start i))
+          ∙ store (all family bs) out₀ n one-more (omega arith)
           ∙ ap (λ (k : ℕ). take k (all family bs) ++ drop k out₀) (sym (add-one n));
       same = length-set out n at ∙ filled .same;
     }
-
-    -- and there is room for it
-    pub has-room : length (frames family bs) ≤ length out₀ → n < length out
-    has-room room = omega (arith, one-more, filled .same, length-map (frames family bs) (λ (x : Found). x .start))
 
   -- with none left all starts are filled in
   full : left family bs at ≡ [] → Fills family bs out₀ n out
@@ -114,15 +119,16 @@ module _ (family : ℕ) (bs out₀ out : List ℕ) (at n : ℕ) (filled : Filled
       let every-one : n ≡ length (frames family bs) = last ∙ length-map (frames family bs) (λ (x : Found). x .start) in
       record {
         count = every-one;
-        content = filled .front ∙ (λ i. take-all n (all family bs) (omega (arith, last)) i ++ drop (every-one i) out₀);
+        content = λ room. filled .front (omega (arith, every-one)) ∙ (λ i. take-all n (all family bs) (omega (arith, last)) i ++ drop (every-one i) out₀);
       }
 
--- where none of the starts that are left is good, the list is filled
-pub ends : (family : ℕ) (bs out₀ out : List ℕ) (at n : ℕ) → Filled family bs out₀ out at n
-    → ((j : ℕ) → at ≤ j → j < length bs → NotGood (head family (drop j bs))) → Fills family bs out₀ n out
-ends family bs out₀ out at n filled none =
-    let over = passed family bs out₀ out at n filled (length bs - at) (omega (arith, filled .within)) (λ j p. none (at + j) (omega arith) (omega arith)) in
-    full family bs out₀ out (at + (length bs - at)) n over (at-end family bs (at + (length bs - at)) (omega (arith, filled .within)))
+-- where fewer bytes are left than the shortest frame has, the list is filled
+pub ends : (family : ℕ) (bs out₀ out : List ℕ) (at n : ℕ) → Filled family bs out₀ out at n → length bs < at + 6 → Fills family bs out₀ n out
+ends family bs out₀ out at n filled short =
+    let end : at + (length bs - at) ≡ length bs = omega (arith, filled .within) in
+    let past = over family bs out₀ out at n filled (length bs - at) (omega (arith, end))
+    (λ j p. too-short family (drop (at + j) bs) (omega (arith, length-drop (at + j) bs))) in
+    full family bs out₀ out (at + (length bs - at)) n past (at-end family bs (at + (length bs - at)) (omega (arith, end)))
 
 pub nothing-filled : (family : ℕ) (bs out : List ℕ) → Filled family bs out out 0 0
-nothing-filled family bs out = record { within = omega arith; few = omega arith; some = omega arith; come = refl; front = refl; same = refl }
+nothing-filled family bs out = record { within = omega arith; few = omega arith; some = omega arith; come = refl; front = λ room. refl; same = refl }

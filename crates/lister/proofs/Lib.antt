@@ -1,8 +1,8 @@
--- `Sizes` has the length of a good frame at the head, `Skips` which starts are passed over together, and `Firsts` what a walk
--- along the starts finds. `Walk` has what one step along a capture says of the frames that are left, and `Filling` how the
--- list of starts is filled.
+-- `Sizes` has the length of a good frame at the head, `Packets` that of a command and of a reply by their tests, and `Skips`
+-- which starts are passed over together. `Walk` has what one step along a capture says of the frames that are left, and
+-- `Filling` how the list of starts is filled.
 pub mod Sizes
+pub mod Packets
 pub mod Skips
-pub mod Firsts
 pub mod Walk
 pub mod Filling

@@ -17,7 +17,7 @@ use Rattle.stream_rules.specs.Rule.{byHead}
 use Rattle.head_laws.proofs.Heads.{complete, GoodHead, good-head}
 use Rattle.head_laws.proofs.PacketStarts.{needs-six}
 use Rattle.seek_laws.proofs.Starts.{NotGood}
-use Rattle.lister.specs.Places.{sizeAt}
+use Rattle.lister.specs.Sizes.{sizeAt}
 
 -- No frame has fewer than six bytes: a count that is allowed needs six or more, and a sentence has six besides its payload.
 pub six : (family : ℕ) (bs : List ℕ) (n : ℕ) (f : Frame) → GoodHead family bs n f → 6 ≤ n

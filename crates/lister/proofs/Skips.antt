@@ -6,19 +6,20 @@ use Prim.Native.Char.{code}
 use mathlib.Core.Path.{_≡_, refl, sym, ap, _∙_}
 use mathlib.Core.Bool.{Bool, true, false, cond}
 use mathlib.Core.List.{List, [], _∷_}
-use native.Mathlib.Decide.{ℕ-discrete}
+use native.Mathlib.Decide.{ℕ-discrete, decLt}
 use native.Mathlib.Omega.{arith}
 use lib.Dec.{eqb}
-use lib.ListN.{length, drop, getD}
+use lib.ListN.{length, drop, getD, length-drop}
 use lib.Seq.{drop-drop, getD-drop}
 use Rattle.rules.specs.Sentences.{isPayloadByte}
 use Rattle.stream_rules.specs.Heads.{markOf, payloadRun, head}
 use Rattle.head_laws.proofs.Heads.{good-head}
+use Rattle.head_laws.proofs.Runs.{run-within}
 use Rattle.head_laws.proofs.PacketStarts.{needs-none, good-start}
 use Rattle.head_laws.proofs.SentenceStarts.{no-dollar}
 use Rattle.seek_laws.proofs.Starts.{NotGood}
-use Rattle.lister.specs.Places.{sizeAt}
-use Rattle.lister.proofs.Sizes.{no-size}
+use Rattle.lister.specs.Sizes.{sizeAt, Passes}
+use Rattle.lister.proofs.Sizes.{size-none, no-size}
 
 module _ (family : ℕ) (spe : family ≡ 2 → ⊥) (bs : List ℕ) where
   -- a good start has three marks
@@ -93,32 +94,59 @@ in-the-run bs j some within = not-dollar (drop j bs) (λ e. dollar (ap (λ (k : 
         let z : _≡_ {A = ℕ} 0 1 = cc (byte, ap isPayloadByte e, dollar-no-payload) in
         omega arith
 
--- The same for the starts from a place of some bytes on. A mark in a count's place: none is good here;
-pub over-mark : (family : ℕ) (spe : family ≡ 2 → ⊥) (s : List ℕ) (at : ℕ) → getD s (at + 3) 0 ≡ markOf family
-    → (j : ℕ) → j < 1 → NotGood (head family (drop (at + j) s))
-over-mark family spe s at e j p =
-    let same : at ≡ at + j = omega arith in
-    rw (← same) (no-mark-is-count family spe (drop at s) (getD-drop at s 3 0 ∙ e))
+-- The same for the starts from a place of some bytes on, as a walk passes over them.
+passes : (family : ℕ) (s : List ℕ) (at k : ℕ) → 0 < k → at + k ≤ length s → ((j : ℕ) → j < k → NotGood (head family (drop (at + j) s)))
+    → Passes family s at (at + k)
+passes family s at k some there none = record {
+  on = omega arith;
+  within = there;
+  none = λ j from below.
+      let same : at + (j - at) ≡ j = omega arith in
+      size-none family (drop j s) (rw same at (none (j - at) (omega arith)));
+}
 
--- none there: neither here, where no frame stands, nor at the next three;
-pub over-four : (family : ℕ) (spe : family ≡ 2 → ⊥) (s : List ℕ) (at : ℕ) → (getD s (at + 3) 0 ≡ markOf family → ⊥) → 0 ≡ sizeAt family (drop at s)
-    → (j : ℕ) → j < 4 → NotGood (head family (drop (at + j) s))
-over-four family spe s at other none j p =
+-- No frame here, and none at the next starts: none at all.
+and-behind : (family : ℕ) (s : List ℕ) (at k : ℕ) → 0 ≡ sizeAt family (drop at s)
+    → ((j : ℕ) → 0 < j → j < k → NotGood (head family (drop j (drop at s)))) → (j : ℕ) → j < k → NotGood (head family (drop (at + j) s))
+and-behind family s at k none behind j p =
     elim (ℕ-discrete j 0) [
       | yes first ↦ let same : at ≡ at + j = omega (arith, first) in rw (← same) (no-size family (drop at s) none)
-      | no later ↦ rw (← drop-drop j at s) (behind-no-mark family spe (drop at s) (λ e. other (sym (getD-drop at s 3 0) ∙ e)) j (omega arith) p)
+      | no later ↦ rw (← drop-drop j at s) (behind j (omega arith) p)
     ]
+
+-- A mark in a count's place: none here;
+pub over-mark : (family : ℕ) (spe : family ≡ 2 → ⊥) (s : List ℕ) (at : ℕ) → at < length s → getD s (at + 3) 0 ≡ markOf family → Passes family s at (at + 1)
+over-mark family spe s at there e =
+    passes family s at 1 (omega arith) (omega arith)
+    (and-behind family s at 1 (size-none family (drop at s) (no-mark-is-count family spe (drop at s) (getD-drop at s 3 0 ∙ e))) (λ j q p. absurd (omega arith)))
+
+-- none there: neither here, where no frame stands, nor at the next three;
+pub over-four : (family : ℕ) (spe : family ≡ 2 → ⊥) (s : List ℕ) (at : ℕ) → at + 4 ≤ length s → (getD s (at + 3) 0 ≡ markOf family → ⊥)
+    → 0 ≡ sizeAt family (drop at s) → Passes family s at (at + 4)
+over-four family spe s at there other none =
+    passes family s at 4 (omega arith) there
+    (and-behind family s at 4 none (behind-no-mark family spe (drop at s) (λ e. other (sym (getD-drop at s 3 0) ∙ e))))
 
 -- another byte than `$`: none here;
-pub over-byte : (s : List ℕ) (at : ℕ) → (getD s at 0 ≡ code "$" → ⊥) → (j : ℕ) → j < 1 → NotGood (head 2 (drop (at + j) s))
-over-byte s at other j p =
-    not-dollar (drop (at + j) s) (λ e. other (ap (λ (k : ℕ). getD s k 0) (omega arith) ∙ sym (getD-drop (at + j) s 0 0) ∙ e))
+pub over-byte : (s : List ℕ) (at : ℕ) → at < length s → (getD s at 0 ≡ code "$" → ⊥) → Passes 2 s at (at + 1)
+over-byte s at there other =
+    passes 2 s at 1 (omega arith) (omega arith)
+    (λ j p. not-dollar (drop (at + j) s) (λ e. other (ap (λ (k : ℕ). getD s k 0) (omega arith) ∙ sym (getD-drop (at + j) s 0 0) ∙ e)))
 
 -- and a `$` with no frame: none here and in the run behind it.
-pub over-run : (s : List ℕ) (at n : ℕ) → n ≤ length (payloadRun (drop 1 (drop at s))) → 0 ≡ sizeAt 2 (drop at s)
-    → (j : ℕ) → j < n + 1 → NotGood (head 2 (drop (at + j) s))
-over-run s at n within none j p =
-    elim (ℕ-discrete j 0) [
-      | yes first ↦ let same : at ≡ at + j = omega (arith, first) in rw (← same) (no-size 2 (drop at s) none)
-      | no later ↦ rw (← drop-drop j at s) (in-the-run (drop at s) j (omega arith) (omega arith))
-    ]
+pub over-run : (s : List ℕ) (at n : ℕ) → at < length s → n ≤ length (payloadRun (drop 1 (drop at s))) → 0 ≡ sizeAt 2 (drop at s) → Passes 2 s at (at + (n + 1))
+over-run s at n there within none =
+    passes 2 s at (n + 1) (omega arith)
+    (omega (arith, run-within (drop 1 (drop at s)), length-drop 1 (drop at s), length-drop at s))
+    (and-behind 2 s at (n + 1) none (λ j some p. in-the-run (drop at s) j some (omega arith)))
+
+-- From a place to a later one, and from there on.
+pub further : (family : ℕ) (s : List ℕ) (from at to : ℕ) → Passes family s from at → Passes family s at to → Passes family s from to
+further family s from at to first then = record {
+  on = omega (arith, first .on, then .on);
+  within = then .within;
+  none = λ j on below. elim (decLt j at) [
+    | yes before ↦ first .none j on before
+    | no behind ↦ then .none j (omega arith) below
+  ];
+}

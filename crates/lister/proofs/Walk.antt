@@ -18,8 +18,6 @@ use Rattle.seek_laws.proofs.Families.{facts}
 use Rattle.seek.specs.Sought.{firstFrom}
 use Rattle.seek.specs.declared.First.{First}
 use Rattle.seek.specs.declared.First.the-variants.{At, Nothing}
-use Rattle.lister.specs.Places.{placeIn}
-use Rattle.lister.specs.declared.places.Place.{Place}
 use Rattle.lister.proofs.Sizes.{six}
 
 -- what is left to list from a place on
@@ -75,34 +73,6 @@ module _ (family : ℕ) (bs : List ℕ) (at : ℕ) where
       case : (l : Look) → byLook l (λ k n g behind. At (at + k) n g) (λ k rest. Nothing) ≡ Nothing → drains (head family) at 0 l ≡ []
       case (waiting k rest) p = refl
       case (ready k n g behind) p = let z : _≡_ {A = ℕ} 0 1 = cc in absurd (omega arith)
-
-  -- The same from the place and the length alone.
-  abbrev placeOf : First → Place
-  placeOf (At start size f) = record { start = start; size = size }
-  placeOf Nothing = record { start = 0; size = 0 }
-
-  same-place : placeIn family bs at ≡ placeOf (firstFrom family bs at)
-  unfolding placeIn firstFrom
-  same-place = case (look (atClose (head family)) (drop at bs))
-    where
-      case : (l : Look) → byLook l (λ k n f behind. record { start = at + k; size = n }) (λ k rest. record { start = 0; size = 0 })
-          ≡ placeOf (byLook l (λ k n f behind. At (at + k) n f) (λ k rest. Nothing))
-      case (waiting k rest) = refl
-      case (ready k n f behind) = refl
-
-  pub next-place : (p : Place) → p ≡ placeIn family bs at → (p .size ≡ 0 → ⊥) → (f : Frame) × Next family bs at (p .start) (p .size) f
-  next-place p e some = case (firstFrom family bs at) refl (e ∙ same-place)
-    where
-      case : (x : First) → firstFrom family bs at ≡ x → p ≡ placeOf x → (f : Frame) × Next family bs at (p .start) (p .size) f
-      case Nothing is q = absurd (some (ap (λ (r : Place). r .size) q))
-      case (At start size f) is q = (f, rw q (next start size f is))
-
-  pub no-place : (p : Place) → p ≡ placeIn family bs at → p .size ≡ 0 → left family bs at ≡ []
-  no-place p e none = case (firstFrom family bs at) refl (e ∙ same-place)
-    where
-      case : (x : First) → firstFrom family bs at ≡ x → p ≡ placeOf x → left family bs at ≡ []
-      case Nothing is q = no-next is
-      case (At start size f) is q = absurd (omega (arith, next start size f is .some, ap (λ (r : Place). r .size) q))
 
 -- At the end nothing is left.
 pub at-end : (family : ℕ) (bs : List ℕ) (at : ℕ) → length bs ≤ at → left family bs at ≡ []

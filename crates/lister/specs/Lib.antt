@@ -1,3 +1,3 @@
--- What the part of the lister that fills the list gives.
+-- `Sizes` has how long a good frame at the head is, and `Fills` what the walks that fill the list give.
 pub mod Fills
-pub mod Places
+pub mod Sizes

@@ -1,74 +1,57 @@
 // The lister: the starts of all frames in a capture, and the earliest frame from a place on.
-mod places;
+mod steps;
 
-use heads::mark_of;
 use heads::payload_bytes;
 use leaves::one_of;
 use leaves::text;
-use places::first_place;
-use places::packet_size;
-use places::sentence_size;
 use seek::First;
 use seek::first_good;
+use steps::next_start;
+use steps::packet_size;
+use steps::sentence_size;
 use stream_rules::Listed;
 ghost use mathlib.Core.Path.{_≡_};
+ghost use mathlib.Core.Bool.{true};
 ghost use Prim.Native.Nat.{_≤_};
-ghost use lib.ListN.{length};
+ghost use lib.ListN.{length, set};
+ghost use Rattle.rules.specs.Answers.{isFamily};
 ghost use Rattle.stream_rules.specs.Lister.{frames, Lists, NextFrame};
 ghost use Rattle.lister.specs.Fills.{Fills};
+ghost use Rattle.lister.specs.Sizes.{Spe};
 
-// How many frames a capture holds.
-fn count_frames(family: u8, capture: &[u8]) -> usize
-    requires { ⌜ length (now capture) ≤ 65536 ⌝ }
-    ensures { λ r. ⌜ r ≡ length (frames family (now (capture .entry))) ⌝ }
+// Notes a start in its place, where the list has that place.
+fn note(starts: &mut [u32], n: usize, at: usize)
+    requires { ⌜ at ≤ 65536 ⌝ }
+    ensures { λ r. ⌜ now (starts .exit) ≡ set (now (starts .entry)) n at ⌝ }
 {
-    let mut at = 0;
-    let mut n = 0;
-    while at < capture.len() {
-        let place = first_place(family, capture, at);
-        if place.size == 0 {
-            return n;
-        }
-        n += 1;
-        at = place.start + place.size;
+    if n < starts.len() {
+        starts[n] = at as u32;
     }
-    n
 }
 
-// Fills in the starts of packets and reports, for which there is room, and gives how many there are. It
-// passes over starts as `places::first_packet` does.
+// Fills in the starts of packets and reports, as far as there are places, and gives how many there are.
 fn fill_packets(family: u8, capture: &[u8], starts: &mut [u32]) -> usize
-    requires { ⌜ (family ≡ 2 → ⊥) × (length (now capture) ≤ 65536) ⌝ }
-    requires { ⌜ length (frames family (now capture)) ≤ length (now starts) ⌝ }
+    requires { ⌜ Spe family × (length (now capture) ≤ 65536) ⌝ }
     ensures { λ r. ⌜ Fills family (now (capture .entry)) (now (starts .entry)) r (now (starts .exit)) ⌝ }
 {
-    let mark = mark_of(family);
     let mut at = 0;
     let mut n = 0;
-    while at < capture.len() {
-        if capture.len() - at < 6 {
-            return n;
-        }
-        if capture[at + 3] == mark {
-            at += 1;
-            continue;
-        }
+    while 6 <= capture.len() - at {
         let size = packet_size(family, &capture[at..]);
         if size == 0 {
-            at += 4;
+            at = next_start(family, capture, at);
             continue;
         }
-        starts[n] = at as u32;
+        note(starts, n, at);
         n += 1;
         at += size;
     }
     n
 }
 
-// The same for sentences, as `places::first_sentence` does.
+// The same for sentences. None starts at a payload byte.
 fn fill_sentences(capture: &[u8], starts: &mut [u32]) -> usize
     requires { ⌜ length (now capture) ≤ 65536 ⌝ }
-    requires { ⌜ length (frames 2 (now capture)) ≤ length (now starts) ⌝ }
     ensures { λ r. ⌜ Fills 2 (now (capture .entry)) (now (starts .entry)) r (now (starts .exit)) ⌝ }
 {
     let mut at = 0;
@@ -84,23 +67,35 @@ fn fill_sentences(capture: &[u8], starts: &mut [u32]) -> usize
             at += run + 1;
             continue;
         }
-        starts[n] = at as u32;
+        note(starts, n, at);
         n += 1;
         at += size;
     }
     n
 }
 
-// Fills in the starts, for which there is room, and gives how many there are.
+// Fills in the starts, as far as there are places, and gives how many there are. Each call says its
+// family, so that the compiler makes a walk for each, with the lengths of its frames.
 fn fill_starts(family: u8, capture: &[u8], starts: &mut [u32]) -> usize
-    requires { ⌜ length (now capture) ≤ 65536 ⌝ }
-    requires { ⌜ length (frames family (now capture)) ≤ length (now starts) ⌝ }
+    requires { ⌜ (isFamily family ≡ true) × (length (now capture) ≤ 65536) ⌝ }
     ensures { λ r. ⌜ Fills family (now (capture .entry)) (now (starts .entry)) r (now (starts .exit)) ⌝ }
 {
     if family == 2 {
         return fill_sentences(capture, starts);
     }
-    fill_packets(family, capture, starts)
+    if family == 3 {
+        return fill_packets(3, capture, starts);
+    }
+    fill_packets(1, capture, starts)
+}
+
+// How many frames a capture holds: the starts are filled into a list that is thrown away.
+fn count_frames(family: u8, capture: &[u8]) -> usize
+    requires { ⌜ (isFamily family ≡ true) × (length (now capture) ≤ 65536) ⌝ }
+    ensures { λ r. ⌜ r ≡ length (frames family (now (capture .entry))) ⌝ }
+{
+    let mut list = [0u32; 1];
+    fill_starts(family, capture, &mut list)
 }
 
 // The starts of the frames in a capture, and how many there are: refusal 1, then 7, then 4.

@@ -7,26 +7,15 @@ ghost use mathlib.Core.List.{[], _∷_};
 ghost use Rattle.rules.specs.Bytes.{ascii, oneOf};
 ghost use Rattle.rules.specs.Codes.{isCode, isAckCode};
 ghost use Rattle.rules.specs.Status.{by, statusInRange};
-ghost use Rattle.spe_rules.specs.Bits.{codesIn};
 
-// The command codes among 32 numbers, a bit for each: seventeen from 0 on, and three from 128 on.
-fn codes_in(row: u8) -> u32
-    ensures { λ r. ⌜ r ≡ codesIn row ⌝ }
-{
-    if row == 0 {
-        return 0x0003_FFFE;
-    }
-    if row == 4 {
-        return 0x0001_000C;
-    }
-    0
-}
+// The command codes, a bit for each: seventeen from 0 on, and from bit 32 on three from 128 on.
+const CODES: u64 = 0x0001_000C_0003_FFFE;
 
 // Whether c is one of the twenty command codes. A bit is looked up, and no test has to be guessed.
 pub fn is_code(c: u8) -> bool
     ensures { λ r. ⌜ r ≡ isCode c ⌝ }
 {
-    (codes_in(c / 32) >> (c % 32)) & 1 == 1
+    (c & 0x60 == 0) & ((CODES >> (c / 128 * 32 + c % 32)) & 1 == 1)
 }
 
 // Whether c is acknowledged: a code, but not the request for a report.

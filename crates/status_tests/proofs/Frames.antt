@@ -2,13 +2,13 @@
 -- Assumes nothing.
 use Prim.Native.Nat.{ℕ, _%_, _/_}
 use mathlib.Core.Path.{_≡_, ap}
-use mathlib.Core.Bool.{Bool, true, false}
+use mathlib.Core.Bool.{Bool, true, false, _&&_}
 use mathlib.Core.List.{List, [], _∷_}
 use native.Mathlib.Omega.{arith}
 use lib.ListN.{length, drop, length-append, length-take, length-drop}
 use lib.Seq.{length-take-le}
 use Rattle.rules.specs.Bytes.{same, total}
-use Rattle.rules.specs.Status.{statusFrame, dataOf}
+use Rattle.rules.specs.Status.{statusFrame, dataOf, joined, cut, widths, readable, statusInRange, statusOf, isStatus}
 use Rattle.laws.proofs.Bytes.{same-eq}
 use Rattle.laws.proofs.Lists.{lengths-differ}
 
@@ -24,6 +24,12 @@ frame-length s e =
 
 pub not-framed : (s : List ℕ) → (length s ≡ 75 → ⊥) → framed s ≡ false
 not-framed s h = lengths-differ s (statusFrame (dataOf s)) (λ e. h (frame-length s e))
+
+pub not-status : (s : List ℕ) → (length s ≡ 75 → ⊥) → isStatus s ≡ false
+unfolding isStatus
+not-status s h =
+    let d = dataOf s in
+    ap (λ b. b && same d (joined (cut 0 widths d)) && readable d && statusInRange (statusOf d)) (not-framed s h)
 
 pub data-length : (s : List ℕ) → length s ≡ 75 → length (dataOf s) ≡ 67
 data-length s h = length-take-le 67 (drop 4 s) (omega (arith, length-drop 4 s))

@@ -5,8 +5,8 @@ use mathlib.Core.Bool.{Bool, true, _&&_, _||_, cond, not}
 use mathlib.Core.List.{List, [], _∷_}
 use lib.Dec.{eqb, leb}
 use lib.ListN.{getD}
-use Rattle.rules.specs.Bytes.{ascii, oneOf, between, every, first}
-use Rattle.rules.specs.Status.{field}
+use Rattle.rules.specs.Bytes.{ascii, oneOf, between, every, first, same}
+use Rattle.rules.specs.Status.{field, joined, cut, widths, readable, statusInRange, statusOf}
 
 -- each byte is from its least to its most
 unfoldable pub allWithin : List ℕ → List ℕ → List ℕ → Bool
@@ -56,3 +56,7 @@ limits13K d =
 
 unfoldable pub limitsGood : List ℕ → Bool
 limitsGood d = cond (eqb (first (field 1 d)) (code "2")) (limits20K d) (limits13K d)
+
+-- data with commas between its fields, of which each can be read, and all are in their ranges
+unfoldable pub dataGood : List ℕ → Bool
+dataGood d = same d (joined (cut 0 widths d)) && readable d && statusInRange (statusOf d)

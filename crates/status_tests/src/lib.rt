@@ -8,7 +8,7 @@ ghost use mathlib.Core.Path.{_≡_};
 ghost use lib.ListN.{length};
 ghost use Rattle.rules.specs.Bytes.{ascii, oneOf, same};
 ghost use Rattle.rules.specs.Status.{statusFrame, dataOf, isStatus};
-ghost use Rattle.status_tests.specs.Tests.{allWithin, allFollow, lettersGood, limitsGood};
+ghost use Rattle.status_tests.specs.Tests.{allWithin, allFollow, lettersGood, limitsGood, dataGood};
 
 // Whether the bytes are a report's frame around their own data: marks, count, sums, 0D 0A.
 pub fn is_report(s: &[u8]) -> bool
@@ -117,14 +117,12 @@ fn limits(d: &[u8]) -> bool
         & (d[61] <= b'0')
 }
 
-// Whether the bytes are, as a whole, a good status report.
-pub fn is_status(s: &[u8]) -> bool
-    ensures { λ r. ⌜ r ≡ isStatus (now (s .entry)) ⌝ }
+// Whether a report's data keeps the rules of its fields. What it is held to is laid out only here, when
+// the frame around it is good.
+fn is_data(d: &[u8]) -> bool
+    requires { ⌜ length (now d) ≡ 67 ⌝ }
+    ensures { λ r. ⌜ r ≡ dataGood (now (d .entry)) ⌝ }
 {
-    if !is_report(s) {
-        return false;
-    }
-    let d = text(s, 4, 67);
     let least = b",10K,O,R,A,1,00,0a,0r,H,   0, 0.00, 0.00, 0.0, 0.0,  0,  0,  0,A,A,";
     let most = b",23K,S,T,x,2,19,6t,6r,M,9999,99.99,99.99,99.9,99.9,999,999,999,Y,S,";
     let marks = b"........................>>>..>.....>.....>....>....>>..>>..>>......";
@@ -132,4 +130,14 @@ pub fn is_status(s: &[u8]) -> bool
         return false;
     }
     letters(d) & spaces(marks, d) & limits(d)
+}
+
+// Whether the bytes are, as a whole, a good status report.
+pub fn is_status(s: &[u8]) -> bool
+    ensures { λ r. ⌜ r ≡ isStatus (now (s .entry)) ⌝ }
+{
+    if !is_report(s) {
+        return false;
+    }
+    is_data(text(s, 4, 67))
 }

@@ -1,19 +1,18 @@
--- `lister::fill_sentences` meets its contract. The loop's invariant: the first n starts stand at the front of the list, and
--- those of the frames left from `at` on are to come. The measure is what is left of the capture.
+-- `lister::fill_sentences` meets its contract. The loop's invariant: n starts are found, and those of the frames left from `at`
+-- on are to come. The measure is what is left of the capture.
 -- Assumes nothing.
-use Prim.Native.Nat.{ℕ, _+_, _-_, min, _≤_, _<_}
+use Prim.Native.Nat.{ℕ, _+_, _-_, min, _≤_}
 use mathlib.Core.Path.{_≡_, sym, ap, _∙_}
 use native.Mathlib.Omega.{arith}
 use borrow.Author.Needs.{needs}
 use mathlib.Core.List.{List}
-use lib.ListN.{length, drop, length-drop}
+use lib.ListN.{length, drop}
 use lib.Seq.{drop-drop}
 use Rattle.stream_rules.specs.Heads.{payloadRun}
 use Rattle.head_laws.proofs.Lists.{whole-rest}
-use Rattle.head_laws.proofs.Runs.{run-within}
-use Rattle.lister.specs.Places.{sizeAt}
+use Rattle.lister.specs.Sizes.{sizeAt}
 use Rattle.lister.proofs.Skips.{over-byte, over-run}
-use Rattle.lister.proofs.Filling.{Filled, nothing-filled, passed, inside, filled-in, has-room, ends}
+use Rattle.lister.proofs.Filling.{Filled, nothing-filled, passed, inside, filled-in, ends}
 use Rattle.lister.proofs.fill_sentences.Statement.{statement}
 use Rattle.lister.proofs.fill_sentences.Tie as tie
 
@@ -45,6 +44,17 @@ module _ (c : tie.Else2 Inv-loop μ-loop) where
   within : c .before .before .before .before .before .before .before .before .loop .at + size ≤ length (start .args .capture .now)
   within = inside _ _ _ _ _ _ (c .before .before .before .before .before .before .before .before .loop .inv) size is-size (c .if2 .left)
 
+-- where a start has been noted
+module _ (c : tie.After-slice-known2 Inv-loop μ-loop) where
+  abbrev frame : tie.Else2 Inv-loop μ-loop
+  frame = c .before .before .before .before
+
+  abbrev before : tie.At-loop Inv-loop μ-loop
+  before = frame .before .before .before .before .before .before .before .before
+
+  small : (before .loop .at + size frame ≤ 65536) × (before .loop .n ≤ before .loop .at)
+  small = (omega (arith, within frame, start frame .pre), before .loop .inv .few)
+
 loop-holds : tie.Need-loop-holds Inv-loop μ-loop
 loop-holds c = nothing-filled _ _ _
 
@@ -61,7 +71,7 @@ loop-again : tie.Need-loop-again Inv-loop μ-loop
 loop-again c =
     let a = c .before .before .before .before .before .before .args in
     let loop = c .before .before .before .loop in
-    passed _ _ _ _ _ _ (loop .inv) 1 (omega arith) (over-byte (a .capture .now) (loop .at) (c .if1 .taken))
+    passed _ _ _ _ _ _ (loop .inv) _ (over-byte (a .capture .now) (loop .at) (omega arith) (c .if1 .taken))
 
 add-payload-bytes : tie.Need-add-payload-bytes Inv-loop μ-loop
 add-payload-bytes c = omega arith
@@ -106,41 +116,34 @@ loop-again-2 c =
     let a = c .before .before .before .before .before .before .before .before .before .before .before .args in
     let loop = c .before .before .before .before .before .before .before .before .loop in
     let run = c .before .before .before in
-    let behind = drop 1 (drop (loop .at) (a .capture .now)) in
-    passed _ _ _ _ _ _ (loop .inv) (run .payload-bytes .result + 1)
-    (omega (arith, counted run, run-within behind, length-drop 1 (drop (loop .at) (a .capture .now)), length-drop (loop .at) (a .capture .now)))
-    (over-run (a .capture .now) (loop .at) (run .payload-bytes .result) (omega (arith, counted run))
+    passed _ _ _ _ _ _ (loop .inv) _
+    (over-run (a .capture .now) (loop .at) (run .payload-bytes .result) (omega arith) (omega (arith, counted run))
     (sym (c .if2 .taken) ∙ c .before .sentence-size .ensures ∙ ap (sizeAt 2) (whole-rest (a .capture .now) (loop .at))))
 
-cast-starts : tie.Need-cast-starts Inv-loop μ-loop
-cast-starts c = omega (arith, within c, start c .pre .0)
-
-mul-starts : tie.Need-mul-starts Inv-loop μ-loop
-mul-starts c = omega (arith, within c, start c .pre .0, c .before .before .before .before .before .before .before .before .loop .inv .few)
-
-slice-write-starts : tie.Need-slice-write-starts Inv-loop μ-loop
-slice-write-starts c = has-room _ _ _ _ _ _ (c .before .before .before .before .before .before .before .before .loop .inv) (size c) (is-size c) (c .if2 .left) (start c .pre .1)
+note-requires : tie.Need-note-requires Inv-loop μ-loop
+note-requires c κs = omega (arith, within (c .before), start (c .before) .pre)
 
 add-n : tie.Need-add-n Inv-loop μ-loop
-add-n c = omega (arith, within c, start c .pre .0, c .before .before .before .before .before .before .before .before .loop .inv .few)
+add-n c = omega (arith, small c)
 
 add-at-4 : tie.Need-add-at-4 Inv-loop μ-loop
-add-at-4 c = omega (arith, within c, start c .pre .0)
+add-at-4 c = omega (arith, small c)
 
 loop-less-3 : tie.Need-loop-less-3 Inv-loop μ-loop
-loop-less-3 c = omega (arith, within c, c .if2 .left)
+loop-less-3 c = omega (arith, within (frame c), frame c .if2 .left)
 
 loop-again-3 : tie.Need-loop-again-3 Inv-loop μ-loop
-loop-again-3 c = filled-in _ _ _ _ _ _ (c .before .before .before .before .before .before .before .before .loop .inv) (size c) (is-size c) (c .if2 .left) (start c .pre .1)
+loop-again-3 c =
+    rw (c .before .before .note .ensures)
+    (filled-in _ _ _ _ _ _ (before c .loop .inv) (size (frame c)) (is-size (frame c)) (frame c .if2 .left))
 
 same-length : tie.Need-same-length Inv-loop μ-loop
 same-length c = c .before .loop .inv .same
 
 returns : tie.Need-returns Inv-loop μ-loop
 returns c =
-    let a = c .before .before .before .before .args in
     let loop = c .before .loop in
-    ends 2 (a .capture .now) (a .starts .now) (loop .starts) (loop .at) (loop .n) (loop .inv) (λ j on p. absurd (omega (arith, c .loop-test .left)))
+    ends _ _ _ _ _ _ (loop .inv) (omega (arith, c .loop-test .left))
 
 pub fill-sentences-spec : {M : Type 1} → statement M
 fill-sentences-spec =
@@ -166,9 +169,7 @@ fill-sentences-spec =
     add-at-3
     loop-less-2
     loop-again-2
-    cast-starts
-    mul-starts
-    slice-write-starts
+    note-requires
     add-n
     add-at-4
     loop-less-3

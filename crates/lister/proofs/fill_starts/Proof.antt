@@ -1,35 +1,64 @@
--- `lister::fill_starts` meets its contract: the test of the family picks the walk.
+-- `lister::fill_starts` meets its contract: the tests of the family pick the walk.
 -- Assumes nothing.
-use Prim.Native.Nat.{ℕ, _≤_}
-use mathlib.Core.Path.{_≡_, sym, subst}
+use Prim.Native.Nat.{ℕ}
+use mathlib.Core.Path.{_≡_, refl}
+use mathlib.Core.Bool.{true, false}
+use mathlib.Core.List.{List}
+use mathlib.Core.Logic.{inl, inr}
+use native.Mathlib.Decide.{ℕ-discrete}
+use native.Mathlib.Omega.{arith}
 use borrow.Author.Needs.{needs}
-use lib.ListN.{length}
-use Rattle.stream_rules.specs.Lister.{frames}
+use borrow.Author.Tests.{ne-eqb}
+use Rattle.rules.specs.Answers.{isFamily}
+use Rattle.rules.specs.Bytes.{oneOf}
 use Rattle.lister.specs.Fills.{Fills}
 use Rattle.lister.proofs.fill_starts.Statement.{statement}
 use Rattle.lister.proofs.fill_starts.Tie as tie
 
+-- what fills the list for a number, fills it for the family that has it
+named : {family k n : ℕ} {bs out after : List ℕ} → family ≡ k → Fills k bs out n after → Fills family bs out n after
+named e fills = rw e fills
+
+-- the family that is neither 2 nor 3
+first : (family : ℕ) → isFamily family ≡ true → (family ≡ 2 → ⊥) → (family ≡ 3 → ⊥) → family ≡ 1
+unfolding oneOf
+first family e not-2 not-3 =
+    elim (ℕ-discrete family 1) [
+      | yes one ↦ one
+      | no not-1 ↦
+          let none : isFamily family ≡ false = rw (ne-eqb family 1 not-1, ne-eqb family 2 not-2, ne-eqb family 3 not-3) in
+          let z : _≡_ {A = ℕ} 0 1 = cc in
+          absurd (omega arith)
+    ]
+
 fill-sentences-requires : tie.Need-fill-sentences-requires
-fill-sentences-requires c κs =
-    let start = c .before .before .before .before in
-    (start .pre .0, subst (λ (k : ℕ). length (frames k (start .args .capture .now)) ≤ length (start .args .starts .now)) (c .before .if1 .taken) (start .pre .1))
+fill-sentences-requires c κs = search needs
 
 same-length : tie.Need-same-length
 same-length c = search needs
 
 returns : tie.Need-returns
-returns c =
-    let start = c .before .before .before .before .before .before .before in
-    subst (λ (k : ℕ). Fills k (start .args .capture .now) (start .args .starts .now) (c .before .before .fill-sentences .result) (c .before .before .fill-sentences .last .1 .0)) (sym (c .before .before .before .before .if1 .taken)) (c .before .before .fill-sentences .ensures)
+returns c = named (c .before .before .before .before .if1 .taken) (c .before .before .fill-sentences .ensures)
 
 fill-packets-requires : tie.Need-fill-packets-requires
-fill-packets-requires c κs = search needs
+fill-packets-requires c κs = (inr refl, c .before .before .before .before .before .pre .1)
 
 same-length-2 : tie.Need-same-length-2
 same-length-2 c = search needs
 
 returns-2 : tie.Need-returns-2
-returns-2 c = search needs
+returns-2 c = named (c .before .before .before .before .if2 .taken) (c .before .before .fill-packets .ensures)
+
+fill-packets-requires-2 : tie.Need-fill-packets-requires-2
+fill-packets-requires-2 c κs = (inl refl, c .before .before .before .before .before .pre .1)
+
+same-length-3 : tie.Need-same-length-3
+same-length-3 c = search needs
+
+returns-3 : tie.Need-returns-3
+returns-3 c =
+    let other = c .before .before .before .before in
+    named (first _ (c .before .before .before .before .before .before .before .before .pre .0) (other .before .if1 .left) (other .if2 .left)) (c .before .before .fill-packets2 .ensures)
 
 pub fill-starts-spec : {M : Type 1} → statement M
 fill-starts-spec =
@@ -40,4 +69,7 @@ fill-starts-spec =
     returns
     fill-packets-requires
     same-length-2
-    returns-2)
+    returns-2
+    fill-packets-requires-2
+    same-length-3
+    returns-3)

@@ -68,9 +68,7 @@ returns-2 c =
     too-long (a .family) (a .capture .now) (a .starts .now) (a-family (c .before)) (lt-leb (length (a .capture .now)) 65536 (c .if2 .taken))
 
 fill-starts-requires : tie.Need-fill-starts-requires
-fill-starts-requires c κs =
-    let a = c .before .before .before .before .before .before .before .before .args in
-    (c .before .before .if2 .left, room-for-all (a .family) (a .capture .now) (a .starts .now) (c .before .if3 .taken))
+fill-starts-requires c κs = (a-family (c .before .before .before), c .before .before .if2 .left)
 
 same-length : tie.Need-same-length
 same-length c = search needs
@@ -79,12 +77,12 @@ returns-3 : tie.Need-returns-3
 returns-3 c =
     let a = c .before .before .before .before .before .before .before .before .before .before .before .args in
     let done = c .before .before .fill-starts .ensures in
+    let room = room-for-all (a .family) (a .capture .now) (a .starts .now) (c .before .before .before .before .if3 .taken) in
     counts (a .family) (a .capture .now) (a .starts .now) (a-family (c .before .before .before .before .before .before)) (le-leb (length (a .capture .now)) 65536 (c .before .before .before .before .before .if2 .left))
-    (le-leb (length (frames (a .family) (a .capture .now))) (length (a .starts .now)) (room-for-all (a .family) (a .capture .now) (a .starts .now) (c .before .before .before .before .if3 .taken)))
-    _ _ (done .count) (done .content)
+    (le-leb (length (frames (a .family) (a .capture .now))) (length (a .starts .now)) room) _ _ (done .count) (done .content room)
 
 count-frames-requires : tie.Need-count-frames-requires
-count-frames-requires c κs = search needs
+count-frames-requires c κs = (a-family (c .before .before), c .before .if2 .left)
 
 returns-4 : tie.Need-returns-4
 returns-4 c =
@@ -94,7 +92,7 @@ returns-4 c =
     (lt-leb n (length (a .starts .now)) (omega (arith, c .if4 .taken, c .before .count-frames .ensures)))
 
 fill-starts-requires-2 : tie.Need-fill-starts-requires-2
-fill-starts-requires-2 c κs = search needs
+fill-starts-requires-2 c κs = (a-family (c .before .before .before .before .before), c .before .before .before .before .if2 .left)
 
 same-length-2 : tie.Need-same-length-2
 same-length-2 c = search needs
@@ -104,9 +102,9 @@ returns-5 c =
     let a = c .before .before .before .before .before .before .before .before .before .before .before .before .before .args in
     let n = length (frames (a .family) (a .capture .now)) in
     let done = c .before .before .fill-starts2 .ensures in
+    let room : n ≤ length (a .starts .now) = omega (arith, c .before .before .before .before .if4 .left, c .before .before .before .before .before .count-frames .ensures) in
     counts (a .family) (a .capture .now) (a .starts .now) (a-family (c .before .before .before .before .before .before .before .before)) (le-leb (length (a .capture .now)) 65536 (c .before .before .before .before .before .before .before .if2 .left))
-    (le-leb n (length (a .starts .now)) (omega (arith, c .before .before .before .before .if4 .left, c .before .before .before .before .before .count-frames .ensures)))
-    _ _ (done .count) (done .content)
+    (le-leb n (length (a .starts .now)) room) _ _ (done .count) (done .content room)
 
 pub list-frames-spec : {M : Type 1} → statement M
 list-frames-spec =

@@ -1,4 +1,4 @@
--- `lister::places::sentence_size` meets its contract: the payload declares a length, and as many bytes are a good frame or none.
+-- `lister::steps::sentence_size` meets its contract: the payload declares a length, and as many bytes are a good frame or none.
 -- Assumes nothing.
 use Prim.Native.Nat.{ℕ, _+_, min, _<_, _≤_}
 use mathlib.Core.Path.{_≡_, refl, sym, ap, _∙_}
@@ -12,8 +12,8 @@ use Rattle.head_laws.proofs.Heads.{good-head}
 use Rattle.seek_laws.proofs.Starts.{NotGood}
 use Rattle.frames.proofs.Families.{family2}
 use Rattle.lister.proofs.Sizes.{size-none, not-declared, size-good, size-refused}
-use Rattle.lister.proofs.places.sentence_size.Statement.{statement}
-use Rattle.lister.proofs.places.sentence_size.Tie as tie
+use Rattle.lister.proofs.steps.sentence_size.Statement.{statement}
+use Rattle.lister.proofs.steps.sentence_size.Tie as tie
 
 module _ (bs : List ℕ) (n : ℕ) (counted : n ≡ min (length (payloadRun (drop 1 bs))) 129) where
   -- a longer payload than 128 bytes makes no frame

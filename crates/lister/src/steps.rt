@@ -1,0 +1,103 @@
+// The steps of a walk along the starts of a capture: how long the good frame here is, with nothing more
+// to come, and where the next start is that may be good. Nothing of a frame is kept.
+use heads::mark_of;
+use leaves::text;
+use spe_tests::is_ack;
+use spe_tests::is_command;
+use status_tests::is_status;
+ghost use mathlib.Core.Path.{_≡_};
+ghost use Prim.Native.Nat.{_+_, min, _≤_};
+ghost use lib.ListN.{length, drop};
+ghost use Rattle.stream_rules.specs.Heads.{payloadRun};
+ghost use Rattle.lister.specs.Sizes.{Spe, sizeAt, Passes};
+
+// How long the good command at the head is; 0 where there is none. Its bytes are looked at together:
+// most starts that are tried are good.
+fn command_size(s: &[u8]) -> usize
+    ensures { λ r. ⌜ r ≡ sizeAt 3 (now (s .entry)) ⌝ }
+{
+    if s.len() < 6 {
+        return 0;
+    }
+    if is_command(&s[..6]) {
+        return 6;
+    }
+    0
+}
+
+// How long the good acknowledgement or report at the head is; 0 where there is none. The count tells
+// which it can be.
+fn reply_size(s: &[u8]) -> usize
+    ensures { λ r. ⌜ r ≡ sizeAt 1 (now (s .entry)) ⌝ }
+{
+    if s.len() < 6 {
+        return 0;
+    }
+    let count = s[3];
+    if count == 0x01 {
+        if is_ack(&s[..6]) {
+            return 6;
+        }
+        return 0;
+    }
+    if count != 0x43 {
+        return 0;
+    }
+    if s.len() < 75 {
+        return 0;
+    }
+    if is_status(&s[..75]) {
+        return 75;
+    }
+    0
+}
+
+// How long the good packet or report of a family at the head is; 0 where there is none.
+pub(crate) fn packet_size(family: u8, s: &[u8]) -> usize
+    requires { ⌜ Spe family ⌝ }
+    ensures { λ r. ⌜ r ≡ sizeAt family (now (s .entry)) ⌝ }
+{
+    if family == 3 {
+        return command_size(s);
+    }
+    reply_size(s)
+}
+
+// How long the good sentence at the head is, with n payload bytes behind its first byte; 0 where there
+// is none.
+pub(crate) fn sentence_size(s: &[u8], n: usize) -> usize
+    requires { ⌜ n ≡ min (length (payloadRun (drop 1 (now s)))) 129 ⌝ }
+    ensures { λ r. ⌜ r ≡ sizeAt 2 (now (s .entry)) ⌝ }
+{
+    if 128 < n {
+        return 0;
+    }
+    if s.len() < n + 6 {
+        return 0;
+    }
+    if alpha::is_sentence(text(s, 0, n + 6)) {
+        return n + 6;
+    }
+    0
+}
+
+// Behind a start with no packet or report, the next at which one may stand. No count is a mark: where
+// one stands in a count's place, no frame starts there; and where none does, no frame starts in the
+// three places before it or at it.
+pub(crate) fn next_start(family: u8, s: &[u8], from: usize) -> usize
+    requires { ⌜ Spe family × (from + 6 ≤ length (now s)) × (0 ≡ sizeAt family (drop from (now s))) ⌝ }
+    ensures { λ r. ⌜ Passes family (now (s .entry)) from r ⌝ }
+{
+    let mark = mark_of(family);
+    if s[from + 3] != mark {
+        return from + 4;
+    }
+    let mut at = from + 1;
+    while 6 <= s.len() - at {
+        if s[at + 3] != mark {
+            return at;
+        }
+        at += 1;
+    }
+    at
+}
