@@ -13,12 +13,12 @@ ghost use lib.ListN.{length};
 ghost use Rattle.rules.specs.Bytes.{part, every};
 ghost use Rattle.rules.specs.Numbers.{isDigit};
 ghost use Rattle.rules.specs.Sentences.{isSentence, numberOf, textsOf};
-ghost use Rattle.rules.specs.Answers.{isGood, readTexts, readFamily2};
+ghost use Rattle.rules.specs.Answers.{Reads, isGood, readTexts, readFamily2};
 ghost use Rattle.alpha.specs.Payloads.{isNamed, isChecked};
 
 // The record of a good sentence, its number where it has none, or the refusal 8.
 pub fn read_sentence(s: &[u8]) -> Reading
-    ensures { λ r. ⌜ r ≡ readFamily2 (now (s .entry)) ⌝ }
+    ensures { λ r. ⌜ Reads 2 (now (s .entry)) r ⌝ }
 {
     if !is_framed(s) {
         return Reading::Refused(NOT_GOOD);
@@ -26,8 +26,8 @@ pub fn read_sentence(s: &[u8]) -> Reading
     read_payload(&s[1..s.len() - 5])
 }
 
-// Whether the bytes are, as a whole, a good sentence. Of one in the writer's form the fields are not
-// read.
+// Whether the bytes are, as a whole, a good sentence. One at full width is told by its bounds; of any
+// other the fields are read.
 pub fn is_sentence(s: &[u8]) -> bool
     ensures { λ r. ⌜ r ≡ isGood (readFamily2 (now (s .entry))) ⌝ }
 {

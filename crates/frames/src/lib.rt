@@ -8,30 +8,23 @@ ghost use Rattle.rules.specs.Answers.{Reads, isGood, readOne};
 pub fn read_frame(family: u8, bytes: &[u8]) -> Reading
     ensures { λ r. ⌜ Reads family (now (bytes .entry)) r ⌝ }
 {
-    if family == 1 {
-        return spe::read_reply(bytes);
+    match family {
+        1 => spe::read_reply(bytes),
+        2 => alpha::read_sentence(bytes),
+        3 => spe::read_command(bytes),
+        _ => Reading::Refused(1),
     }
-    if family == 2 {
-        return alpha::read_sentence(bytes);
-    }
-    if family == 3 {
-        return spe::read_command(bytes);
-    }
-    Reading::Refused(1)
 }
 
-// Whether the whole of the bytes is one good frame of the family. Nothing of it is read.
+// Whether the whole of the bytes is one good frame of the family. A sentence that is not at
+// full width is read to know it; of no other frame is anything read.
 pub fn is_good(family: u8, bytes: &[u8]) -> bool
     ensures { λ r. ⌜ r ≡ isGood (readOne family (now (bytes .entry))) ⌝ }
 {
-    if family == 1 {
-        return spe_tests::is_ack(bytes) || spe_tests::is_status(bytes);
+    match family {
+        1 => spe_tests::is_ack(bytes) || spe_tests::is_status(bytes),
+        2 => alpha::is_sentence(bytes),
+        3 => spe_tests::is_command(bytes),
+        _ => false,
     }
-    if family == 2 {
-        return alpha::is_sentence(bytes);
-    }
-    if family == 3 {
-        return spe_tests::is_command(bytes);
-    }
-    false
 }

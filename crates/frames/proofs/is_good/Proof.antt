@@ -1,4 +1,4 @@
--- `frames::is_good` meets its contract: the test of the family picks the family's test.
+-- `frames::is_good` meets its contract: the family picks its test.
 -- Assumes nothing.
 use Prim.Native.Nat.{ℕ}
 use mathlib.Core.Path.{_≡_, refl, sym, ap, _∙_}
@@ -8,10 +8,10 @@ use borrow.Author.Needs.{needs}
 use lib.ListN.{getD}
 use Rattle.rules.specs.Codes.{isAck, isCommand}
 use Rattle.rules.specs.Status.{dataOf, statusOf, isStatus}
-use Rattle.rules.specs.Answers.{isGood, readFamily1, readFamily3}
+use Rattle.rules.specs.Answers.{isGood, readOne, readFamily1, readFamily3}
 use Rattle.rules.specs.declared.Frame.the-variants.{Ack, Status, Command}
 use Rattle.rules.specs.declared.Reading.the-variants.{Good, Refused}
-use Rattle.frames.proofs.Families.{family1, family2, family3, no-family}
+use Rattle.frames.proofs.Families.{no-family}
 use Rattle.frames.proofs.is_good.Statement.{statement}
 use Rattle.frames.proofs.is_good.Tie as tie
 
@@ -39,32 +39,34 @@ is-ack-requires c κs = search needs
 is-status-requires : tie.Need-is-status-requires
 is-status-requires c κs = search needs
 
-returns : tie.Need-returns
-returns c =
-    c .if2 .taken
-    ∙ reply _ true (sym (c .before .is-ack .ensures) ∙ c .if2 .taken)
-    ∙ ap isGood (family1 _ _ (c .before .before .if1 .taken))
-
-returns-2 : tie.Need-returns-2
-returns-2 c =
-    c .is-status .ensures
-    ∙ reply _ false (sym (c .before .before .is-ack .ensures) ∙ c .before .if2 .left)
-    ∙ ap isGood (family1 _ _ (c .before .before .before .if1 .taken))
-
 is-sentence-requires : tie.Need-is-sentence-requires
 is-sentence-requires c κs = search needs
-
-returns-3 : tie.Need-returns-3
-returns-3 c = c .is-sentence .ensures ∙ ap isGood (family2 _ _ (c .before .before .if1 .left) (c .before .if3 .taken))
 
 is-command-requires : tie.Need-is-command-requires
 is-command-requires c κs = search needs
 
+returns : tie.Need-returns
+unfolding readOne
+returns c = rw (c .before .before .match .keys1) (c .if1 .taken ∙ reply _ true (sym (c .before .is-ack .ensures) ∙ c .if1 .taken))
+
+returns-2 : tie.Need-returns-2
+unfolding readOne
+returns-2 c =
+    rw (c .before .before .before .match .keys1)
+    (c .is-status .ensures ∙ reply _ false (sym (c .before .before .is-ack .ensures) ∙ c .before .if1 .left))
+
+returns-3 : tie.Need-returns-3
+unfolding readOne
+returns-3 c = rw (c .before .match .keys2) (c .is-sentence .ensures)
+
 returns-4 : tie.Need-returns-4
-returns-4 c = c .is-command .ensures ∙ a-command _ ∙ ap isGood (family3 _ _ (c .before .before .before .if1 .left) (c .before .before .if3 .left) (c .before .if4 .taken))
+unfolding readOne
+returns-4 c = rw (c .before .match .keys3) (c .is-command .ensures ∙ a-command _)
 
 returns-5 : tie.Need-returns-5
-returns-5 c = ap isGood (no-family _ _ (c .before .before .if1 .left) (c .before .if3 .left) (c .if4 .left))
+returns-5 c =
+    let others = c .match .rest in
+    ap isGood (no-family _ _ (others .0 .0 .1) (others .0 .1) (others .1))
 
 pub is-good-spec : {M : Type 1} → statement M
 is-good-spec =
@@ -72,10 +74,10 @@ is-good-spec =
     (tie.spec
     is-ack-requires
     is-status-requires
+    is-sentence-requires
+    is-command-requires
     returns
     returns-2
-    is-sentence-requires
     returns-3
-    is-command-requires
     returns-4
     returns-5)
