@@ -1,5 +1,5 @@
 -- Bytes between two rows of bounds. Where the bounds are those of texts behind commas, so are the bytes, and each text
--- is from the least byte to the most; so a payload between the bounds of a writer's form has the texts that its places
+-- is from the least byte to the most; so a payload between the bounds of full width has the texts that its places
 -- tell. By induction on the bounds. Assumes nothing.
 use Prim.Native.Nat.{ℕ, zero, suc, _+_, _≤_}
 use mathlib.Core.Path.{_≡_, refl, sym, _∙_, ap, ap₂}

@@ -1,4 +1,4 @@
--- Sentence 02 in the writer's form: digits between its commas, and what its rules ask of three fields besides.
+-- Sentence 02 at full width: digits between its commas, and what its rules ask of three fields besides.
 -- Assumes nothing.
 use Prim.Native.Nat.{ℕ, _+_, _*_, _≤_}
 use mathlib.Core.Path.{_≡_, refl, sym, _∙_}

@@ -1,4 +1,4 @@
--- Sentence 03 in the writer's form: digits between its commas, then a temperature of six bytes. Assumes nothing.
+-- Sentence 03 at full width: digits between its commas, then a temperature of six bytes. Assumes nothing.
 use Prim.Native.Nat.{ℕ, _≤_}
 use mathlib.Core.Path.{_≡_, refl, sym, _∙_, ap}
 use mathlib.Core.Bool.{Bool, true, false, _&&_, not, and-eq-true-iff}

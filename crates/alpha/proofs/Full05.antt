@@ -1,4 +1,4 @@
--- Sentence 05 in the writer's form: two hexadecimal digits between its commas. Assumes nothing.
+-- Sentence 05 at full width: two hexadecimal digits between its commas. Assumes nothing.
 use Prim.Native.Nat.{ℕ, _+_, _≤_}
 use mathlib.Core.Path.{_≡_, refl, sym, _∙_, ap}
 use mathlib.Core.Bool.{Bool, true, _&&_, or-true}

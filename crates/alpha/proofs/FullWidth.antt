@@ -1,4 +1,4 @@
--- Payloads in the writer's form: texts with all their digits are decimal fields, and a payload whose number and texts
+-- Payloads at full width: texts with all their digits are decimal fields, and a payload whose number and texts
 -- are known is good where they are. Assumes nothing.
 use Prim.Native.Nat.{ℕ, _+_, _-_, _≤_, _<_}
 use mathlib.Core.Path.{_≡_, refl, _∙_, ap, subst}

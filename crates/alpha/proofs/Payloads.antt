@@ -1,24 +1,26 @@
 -- The tests of a payload, as they are read: its name, its number, and its check digits.
 -- Each goes by cases on the tests. Assumes nothing.
-use Prim.Native.Nat.{ℕ, _-_, _/_, _%_, _≤_, _<_}
-use mathlib.Core.Path.{_≡_, sym, ap, _∙_}
-use mathlib.Core.Bool.{Bool, true, _&&_, and-assoc, and-true}
-use mathlib.Core.List.{List, _++_}
+use Prim.Native.Nat.{ℕ, _-_, _≤_, _<_}
+use mathlib.Core.Path.{_≡_, refl, ap, ap₂, _∙_}
+use mathlib.Core.Bool.{Bool, true, false, _&&_, and-assoc, and-true, and-false}
+use mathlib.Core.List.{List}
 use native.Mathlib.Omega.{arith}
 use lib.Dec.{eqb}
 use lib.ListN.{length, take, drop, getD, length-drop, drop-of-length-le}
 use lib.Seq.{length-take-le, take-all}
 use borrow.Author.Tests.{ne-eqb}
-use Rattle.rules.specs.Bytes.{part, every, same}
-use Rattle.rules.specs.Numbers.{isDigit, hexDigit, hexDigits}
+use Rattle.rules.specs.Bytes.{part, every}
+use Rattle.rules.specs.Numbers.{isDigit, isHexDigit, hexNumber}
 use Rattle.rules.specs.Sentences.{nothingOrComma, gives, sum1, sum2, numberOf, is02, is03, is05, sentence02, sentence03, sentence05}
 use Rattle.rules.specs.Answers.{readTexts}
 use Rattle.rules.specs.declared.Frame.the-variants.{Apa02, Apa03, Apa05, Other}
 use Rattle.rules.specs.declared.Reading.the-variants.{Good}
 use Rattle.laws.proofs.Bytes.{one-by-one}
-use Rattle.laws.proofs.Sentences.{given-by-digits}
 use Rattle.numbers.specs.Fields.{digitsIn}
 use Rattle.leaves.proofs.Steps.{at as from-place}
+use Rattle.hex.specs.Hex.{pairIn}
+use Rattle.hex.specs.declared.HexByte.{HexByte}
+use Rattle.hex.proofs.Digits.{pair-gives}
 use Rattle.alpha.specs.Fields.{Text}
 use Rattle.alpha.specs.Held.{held}
 use Rattle.alpha.proofs.Texts.{as-wide, counted, count-below}
@@ -49,19 +51,29 @@ module _ (p : List ℕ) where
 pub behind : (p : List ℕ) → take (length p - 5) (drop 5 p) ≡ drop 5 p
 behind p = take-all (length p - 5) (drop 5 p) (omega (arith, length-drop 5 p))
 
--- The check digits, one by one, behind a test of the bytes.
-grouped : (a b c d e : Bool) → a && b && c && d && e ≡ a && (b && (c && (d && (e && true))))
-grouped a b c d e = simp (and-assoc, and-true)
+-- The check digits, two by two, behind a test of the bytes.
+grouped : (a b c d e : Bool) → a && b && c && d && e ≡ a && ((b && c) && (d && e))
+grouped a b c d e = simp and-assoc
 
-pub checked : (allowed : Bool) (check p : List ℕ) → length check ≡ 4
-    → allowed && eqb (getD check 0 0) (hexDigit (sum2 p / 16)) && eqb (getD check 1 0) (hexDigit (sum2 p % 16))
-    && eqb (getD check 2 0) (hexDigit (sum1 p / 16)) && eqb (getD check 3 0) (hexDigit (sum1 p % 16))
-    ≡ allowed && gives check p
-unfolding same
-checked allowed check p four =
-    grouped allowed _ _ _ _
-    ∙ ap (λ (b : Bool). allowed && b)
-    (ap (λ (l : List ℕ). same l (hexDigits (sum2 p) ++ hexDigits (sum1 p))) (one-by-one 0 4 check four) ∙ sym (given-by-digits check p four))
+digits-first : (a b e c d f : Bool) → (a && b && e) && (c && d && f) ≡ a && (b && (c && (d && true))) && e && f
+digits-first true true true c d f = simp and-true
+digits-first true true false c d f = simp and-false
+digits-first true false e c d f = refl
+digits-first false b e c d f = refl
+
+pub checked : (allowed : Bool) (check p : List ℕ) → length check ≡ 4 → (upper lower : HexByte)
+    → upper ≡ pairIn (getD check 0 0) (getD check 1 0) → lower ≡ pairIn (getD check 2 0) (getD check 3 0)
+    → allowed && upper .good && eqb (upper .value) (sum2 p) && lower .good && eqb (lower .value) (sum1 p) ≡ allowed && gives check p
+unfolding gives every
+checked allowed check p four upper lower e f =
+    let b : ℕ → ℕ = λ k. getD check k 0 in
+    let sum2-given = ap (λ (h : HexByte). h .good && eqb (h .value) (sum2 p)) e ∙ pair-gives (b 0) (b 1) (sum2 p) in
+    let sum1-given = ap (λ (h : HexByte). h .good && eqb (h .value) (sum1 p)) f ∙ pair-gives (b 2) (b 3) (sum1 p) in
+    grouped allowed (upper .good) _ (lower .good) _
+    ∙ ap (λ (t : Bool). allowed && t)
+    (ap₂ _&&_ sum2-given sum1-given
+    ∙ digits-first (isHexDigit (b 0)) _ (eqb (hexNumber (b 0) (b 1)) (sum2 p)) (isHexDigit (b 2)) (isHexDigit (b 3)) _
+    ∙ ap (λ (l : List ℕ). gives l p) (one-by-one 0 4 check four))
 
 -- The answer, by the number.
 module _ (n : ℕ) (ts : List Text) where

@@ -1,5 +1,6 @@
-// Payloads in the writer's form, each field with all its bytes: one pass over bounds tells that they
-// are good. Of any other payload nothing is said here, and its fields are read.
+// Payloads at full width, each field with as many bytes as the writer gives it: one pass over bounds
+// tells that they are good. The temperature `-000.0` is at full width too, though the writer never
+// writes it. Of any other payload nothing is said here.
 ghost use mathlib.Core.Path.{_≡_};
 ghost use mathlib.Core.Bool.{true};
 ghost use lib.ListN.{length};
@@ -7,7 +8,7 @@ ghost use Rattle.rules.specs.Bytes.{every};
 ghost use Rattle.alpha.specs.Bounds.{inBounds, outsideGap};
 ghost use Rattle.alpha.specs.Payloads.{isGoodPayload};
 
-// Whether a payload is of the writer's form and good.
+// True only of a good payload: of one at full width.
 pub(crate) fn is_full(p: &[u8]) -> bool
     ensures { λ r. ⌜ (r ≡ true → isGoodPayload (now (p .entry)) ≡ true) ⌝ }
 {

@@ -8,17 +8,17 @@ use rules::Frame;
 use rules::Reading;
 ghost use mathlib.Core.Path.{_≡_};
 ghost use mathlib.Core.Bool.{true};
-ghost use Prim.Native.Nat.{_≤_, _<_};
+ghost use Prim.Native.Nat.{_≤_};
 ghost use lib.ListN.{length};
 ghost use Rattle.rules.specs.Bytes.{part, every};
-ghost use Rattle.rules.specs.Numbers.{isDigit, hexDigit};
+ghost use Rattle.rules.specs.Numbers.{isDigit};
 ghost use Rattle.rules.specs.Sentences.{isSentence, numberOf, textsOf};
-ghost use Rattle.rules.specs.Answers.{isGood, readTexts, readFamily2};
+ghost use Rattle.rules.specs.Answers.{Reads, isGood, readTexts, readFamily2};
 ghost use Rattle.alpha.specs.Payloads.{isNamed, isChecked};
 
 // The record of a good sentence, its number where it has none, or the refusal 8.
 pub fn read_sentence(s: &[u8]) -> Reading
-    ensures { λ r. ⌜ r ≡ readFamily2 (now (s .entry)) ⌝ }
+    ensures { λ r. ⌜ Reads 2 (now (s .entry)) r ⌝ }
 {
     if !is_framed(s) {
         return Reading::Refused(NOT_GOOD);
@@ -26,8 +26,8 @@ pub fn read_sentence(s: &[u8]) -> Reading
     read_payload(&s[1..s.len() - 5])
 }
 
-// Whether the bytes are, as a whole, a good sentence. Of one in the writer's form the fields are not
-// read.
+// Whether the bytes are, as a whole, a good sentence. One at full width is told by its bounds; of any
+// other the fields are read.
 pub fn is_sentence(s: &[u8]) -> bool
     ensures { λ r. ⌜ r ≡ isGood (readFamily2 (now (s .entry))) ⌝ }
 {
@@ -82,31 +82,20 @@ fn is_named(p: &[u8]) -> bool
     letters & number.good & (p[5] == b',')
 }
 
-// Whether each byte may stand in a payload, and the four digits are those of its sums, the second
-// sum first.
+// Whether each byte may stand in a payload, and the four digits give its sums, the second sum first.
 fn is_checked(p: &[u8], check: &[u8]) -> bool
     requires { ⌜ length (now check) ≡ 4 ⌝ }
     ensures { λ r. ⌜ r ≡ isChecked (now (check .entry)) (now (p .entry)) ⌝ }
 {
     let sums = fletcher::fletcher(p);
-    let sum1 = sums.sum1;
-    let sum2 = sums.sum2;
+    let pairs = hex::hex_pairs(check[0], check[1], check[2], check[3]);
+    let first = pairs.first;
+    let second = pairs.second;
     sums.allowed
-        & (check[0] == hex_char(sum2 / 16))
-        & (check[1] == hex_char(sum2 % 16))
-        & (check[2] == hex_char(sum1 / 16))
-        & (check[3] == hex_char(sum1 % 16))
-}
-
-// The hexadecimal digit of a number.
-fn hex_char(n: u8) -> u8
-    requires { ⌜ n < 16 ⌝ }
-    ensures { λ r. ⌜ r ≡ hexDigit n ⌝ }
-{
-    if n < 10 {
-        return b'0' + n;
-    }
-    b'A' + (n - 10)
+        & first.good
+        & (first.value == sums.sum2)
+        & second.good
+        & (second.value == sums.sum1)
 }
 
 // The record of a payload, by its number.

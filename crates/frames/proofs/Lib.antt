@@ -1,2 +1,2 @@
--- `Families` has the reader of one frame by the family's number.
+-- `Families` has what a reader of one frame says where there is no such family.
 pub mod Families

@@ -7,14 +7,10 @@ ghost use Rattle.rules.specs.Answers.{Reads};
 pub fn read_frame(family: u8, bytes: &[u8]) -> Reading
     ensures { λ r. ⌜ Reads family (now (bytes .entry)) r ⌝ }
 {
-    if family == 1 {
-        return spe::read_reply(bytes);
+    match family {
+        1 => spe::read_reply(bytes),
+        2 => alpha::read_sentence(bytes),
+        3 => spe::read_command(bytes),
+        _ => Reading::Refused(1),
     }
-    if family == 2 {
-        return alpha::read_sentence(bytes);
-    }
-    if family == 3 {
-        return spe::read_command(bytes);
-    }
-    Reading::Refused(1)
 }

@@ -1,11 +1,17 @@
 // Uppercase hexadecimal digits, looked up in a table.
 ghost use mathlib.Core.Path.{_≡_};
-ghost use Rattle.hex.specs.Hex.{digitIn, pairIn};
+ghost use Rattle.hex.specs.Hex.{OfDigits, digitIn, pairIn, pairsIn};
 
 // Two hexadecimal digits as one byte: the value is 0 where they are none.
 pub struct HexByte {
     pub good: bool,
     pub value: u8,
+}
+
+// Four hexadecimal digits as two bytes.
+pub struct HexPairs {
+    pub first: HexByte,
+    pub second: HexByte,
 }
 
 // The number of each byte as a hexadecimal digit, and 16 for a byte that is none.
@@ -268,19 +274,32 @@ const DIGITS: [u8; 256] = [
     16,
 ];
 
-// The number of a hexadecimal digit, and 16 for any other byte.
-pub fn hex_digit(b: u8) -> u8
-    ensures { λ r. ⌜ r ≡ digitIn b ⌝ }
-{
-    DIGITS[b as usize]
-}
-
 // The byte that two digits give, the upper nibble first.
 pub fn hex_pair(upper: u8, lower: u8) -> HexByte
     ensures { λ r. ⌜ r ≡ pairIn upper lower ⌝ }
 {
-    let a = hex_digit(upper);
-    let b = hex_digit(lower);
+    pair_in(&DIGITS, upper, lower)
+}
+
+// The two bytes that four digits give. The table is laid out once for all four: a constant array is
+// laid on the stack wherever it is used.
+pub fn hex_pairs(a: u8, b: u8, c: u8, d: u8) -> HexPairs
+    ensures { λ r. ⌜ r ≡ pairsIn a b c d ⌝ }
+{
+    let digits = DIGITS;
+    HexPairs {
+        first: pair_in(&digits, a, b),
+        second: pair_in(&digits, c, d),
+    }
+}
+
+// The byte that two digits give, by a table of digits.
+fn pair_in(digits: &[u8; 256], upper: u8, lower: u8) -> HexByte
+    requires { ⌜ OfDigits (now digits) ⌝ }
+    ensures { λ r. ⌜ r ≡ pairIn upper lower ⌝ }
+{
+    let a = hex_digit(digits, upper);
+    let b = hex_digit(digits, lower);
     if a == 16 {
         return HexByte {
             good: false,
@@ -297,4 +316,12 @@ pub fn hex_pair(upper: u8, lower: u8) -> HexByte
         good: true,
         value: a * 16 + b,
     }
+}
+
+// The number of a hexadecimal digit, and 16 for any other byte.
+fn hex_digit(digits: &[u8; 256], b: u8) -> u8
+    requires { ⌜ OfDigits (now digits) ⌝ }
+    ensures { λ r. ⌜ r ≡ digitIn b ⌝ }
+{
+    digits[b as usize]
 }

@@ -15,7 +15,7 @@ ghost use mathlib.Core.Path.{_≡_};
 ghost use lib.ListN.{length};
 ghost use Rattle.rules.specs.Bytes.{same};
 ghost use Rattle.rules.specs.Status.{joined, cut, widths};
-ghost use Rattle.rules.specs.Answers.{readFamily1, readFamily3};
+ghost use Rattle.rules.specs.Answers.{Reads};
 ghost use Rattle.spe.specs.Report.{FieldsOf, FrontOf, MetersOf, reportIn};
 
 // The values of a report's fields, and whether its texts could be read.
@@ -191,7 +191,7 @@ fn read_report(s: &[u8]) -> Reading
 
 // A frame of family 1, from the amplifier: an acknowledgement, or a report; or refusal 8.
 pub fn read_reply(s: &[u8]) -> Reading
-    ensures { λ r. ⌜ r ≡ readFamily1 (now (s .entry)) ⌝ }
+    ensures { λ r. ⌜ Reads 1 (now (s .entry)) r ⌝ }
 {
     if is_ack(s) {
         return Reading::Good(Frame::Ack(s[4]));
@@ -201,7 +201,7 @@ pub fn read_reply(s: &[u8]) -> Reading
 
 // A frame of family 3, to the amplifier: a command, or refusal 8.
 pub fn read_command(s: &[u8]) -> Reading
-    ensures { λ r. ⌜ r ≡ readFamily3 (now (s .entry)) ⌝ }
+    ensures { λ r. ⌜ Reads 3 (now (s .entry)) r ⌝ }
 {
     if is_command(s) {
         return Reading::Good(Frame::Command(s[4]));

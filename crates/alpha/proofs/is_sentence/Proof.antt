@@ -1,4 +1,4 @@
--- `alpha::is_sentence` meets its contract: a sentence is good where its payload is one of the writer's form, or gives a
+-- `alpha::is_sentence` meets its contract: a sentence is good where its payload is one at full width, or gives a
 -- record or a number. Assumes nothing.
 use mathlib.Core.Path.{_≡_, sym, ap, _∙_}
 use mathlib.Core.Bool.{true}

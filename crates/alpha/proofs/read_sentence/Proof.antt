@@ -6,6 +6,8 @@ use denote.Ref.{now}
 use borrow.Author.Needs.{needs}
 use borrow.Author.Tests.{not-true, not-false}
 use Rattle.rules.specs.Sentences.{isSentence}
+use Rattle.rules.specs.Answers.{readOne}
+use Rattle.laws.proofs.Saying.{reads}
 use Rattle.alpha.proofs.Frames.{no-sentence, long-enough, numbered, a-sentence}
 use Rattle.alpha.proofs.read_sentence.Statement.{statement}
 use Rattle.alpha.proofs.read_sentence.Tie as tie
@@ -14,7 +16,8 @@ is-framed-requires : tie.Need-is-framed-requires
 is-framed-requires c κs = search needs
 
 returns : tie.Need-returns
-returns c = no-sentence _ (sym (c .before .is-framed .ensures) ∙ not-true _ (c .if1 .taken))
+unfolding readOne
+returns c = reads (no-sentence _ (sym (c .before .is-framed .ensures) ∙ not-true _ (c .if1 .taken)))
 
 good : (c : tie.Else1) → isSentence (now (c .before .before .before .args .s)) ≡ true
 good c = sym (c .before .is-framed .ensures) ∙ not-false _ (c .if1 .left)
@@ -35,7 +38,8 @@ read-payload-requires : tie.Need-read-payload-requires
 read-payload-requires c κs = numbered _ (good (c .before))
 
 returns-2 : tie.Need-returns-2
-returns-2 c = c .read-payload .ensures ∙ a-sentence _ (good (c .before .before))
+unfolding readOne
+returns-2 c = reads (c .read-payload .ensures ∙ a-sentence _ (good (c .before .before)))
 
 pub read-sentence-spec : {M : Type 1} → statement M
 read-sentence-spec =

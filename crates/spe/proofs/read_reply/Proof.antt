@@ -8,16 +8,17 @@ use native.Mathlib.Omega.{arith}
 use borrow.Author.Needs.{needs}
 use lib.ListN.{getD}
 use Rattle.rules.specs.Codes.{isAck}
-use Rattle.rules.specs.Answers.{readFamily1}
+use Rattle.rules.specs.Answers.{readOne, readFamily1}
 use Rattle.rules.specs.declared.Frame.the-variants.{Ack}
 use Rattle.rules.specs.declared.Reading.the-variants.{Good}
+use Rattle.laws.proofs.Saying.{reads}
 use Rattle.spe.specs.Report.{reportIn}
 use Rattle.spe_tests.proofs.Frames.{not-ack, six-bytes}
 use Rattle.spe.proofs.read_reply.Statement.{statement}
 use Rattle.spe.proofs.read_reply.Tie as tie
 
-answer : (s : List ℕ) (b : Bool) → isAck s ≡ b → cond b (Good (Ack (getD s 4 0))) (reportIn s) ≡ readFamily1 s
-unfolding readFamily1 reportIn
+answer : (s : List ℕ) (b : Bool) → isAck s ≡ b → cond b (Good (Ack (getD s 4 0))) (reportIn s) ≡ readOne 1 s
+unfolding readOne readFamily1 reportIn
 answer s b e = ap (λ (x : Bool). cond x (Good (Ack (getD s 4 0))) (reportIn s)) (sym e)
 
 is-ack-requires : tie.Need-is-ack-requires
@@ -29,13 +30,13 @@ shared-slice-read-t4 c =
     omega (arith, six-bytes (isAck s) s (not-ack s) (sym (c .before .before .is-ack .ensures) ∙ c .before .if1 .taken))
 
 returns : tie.Need-returns
-returns c = answer _ true (sym (c .before .before .is-ack .ensures) ∙ c .before .if1 .taken)
+returns c = reads (answer _ true (sym (c .before .before .is-ack .ensures) ∙ c .before .if1 .taken))
 
 read-report-requires : tie.Need-read-report-requires
 read-report-requires c κs = search needs
 
 returns-2 : tie.Need-returns-2
-returns-2 c = c .read-report .ensures ∙ answer _ false (sym (c .before .before .is-ack .ensures) ∙ c .before .if1 .left)
+returns-2 c = reads (c .read-report .ensures ∙ answer _ false (sym (c .before .before .is-ack .ensures) ∙ c .before .if1 .left))
 
 pub read-reply-spec : {M : Type 1} → statement M
 read-reply-spec = tie.close (tie.spec is-ack-requires shared-slice-read-t4 returns read-report-requires returns-2)

@@ -1,4 +1,4 @@
--- `alpha::full::is_full02` meets its contract: its bounds are those of the writer's form. Assumes nothing.
+-- `alpha::full::is_full02` meets its contract: its bounds are those of full width. Assumes nothing.
 use Prim.Native.Nat.{_+_, _*_, _≤_}
 use native.Mathlib.Omega.{arith}
 use denote.Ref.{now}

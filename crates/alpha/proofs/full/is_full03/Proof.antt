@@ -1,4 +1,4 @@
--- `alpha::full::is_full03` meets its contract: its bounds are those of the writer's form. Assumes nothing.
+-- `alpha::full::is_full03` meets its contract: its bounds are those of full width. Assumes nothing.
 use denote.Ref.{now}
 use borrow.Author.Needs.{needs}
 use Rattle.rules.specs.Sentences.{commas}

@@ -1,4 +1,4 @@
--- `alpha::full::is_full05` meets its contract: its bounds are those of the writer's form, and no byte stands in the gap
+-- `alpha::full::is_full05` meets its contract: its bounds are those of full width, and no byte stands in the gap
 -- that they leave between the digits and the letters. Assumes nothing.
 use mathlib.Core.Path.{sym, _∙_}
 use denote.Ref.{now}
