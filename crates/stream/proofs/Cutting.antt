@@ -25,7 +25,7 @@ use Rattle.stream.specs.Turns.{stepFrom, keptOf, callOn, Cuts}
 use Rattle.stream.specs.declared.pieces.Step.the-variants.{Ready as StepReady, Waiting as StepWaiting}
 
 -- a part, cut at its end first
-drop-take : (a p : ℕ) (l : List ℕ) → a ≤ p → drop a (take p l) ≡ take (p - a) (drop a l)
+pub drop-take : (a p : ℕ) (l : List ℕ) → a ≤ p → drop a (take p l) ≡ take (p - a) (drop a l)
 drop-take zero p l h = ap (λ (n : ℕ). take n l) (sym (sub-zero p))
 drop-take (suc a) zero l h = absurd (omega arith)
 drop-take (suc a) (suc p) [] h = sym (take-nil (suc p - suc a))

@@ -1,5 +1,5 @@
-// A call piece by piece: what is held and the next bytes offered stand together in a buffer, which is
-// searched as a whole.
+// A call on all that is offered. Its bytes are searched where they stand, as a whole; only what is held
+// is joined first, in a buffer, with the next bytes offered.
 use leaves::text;
 use pens::put_bytes;
 use rules::Frame;
@@ -12,7 +12,7 @@ ghost use lib.ListN.{length, take, drop};
 ghost use Rattle.rules.specs.Bytes.{part};
 ghost use Rattle.stream_rules.specs.Heads.{longest, head};
 ghost use Rattle.stream_rules.specs.Rule.{call};
-ghost use Rattle.stream.specs.Turns.{filled, turnedFrom, turned, Cuts, Joined};
+ghost use Rattle.stream.specs.Turns.{filled, callOn, turnedFrom, turned, Cuts, Joined};
 
 // A frame that is ready: the bytes taken, the bytes skipped, its length, and what it says.
 pub struct Got {
@@ -82,10 +82,10 @@ fn join(held: &[u8], piece: &[u8]) -> [u8; 266]
     work
 }
 
-// What a call does with a buffer whose first bytes it held.
+// What a call does with bytes whose first ones it held.
 fn search(family: u8, work: &[u8], count: usize, taken: usize, skipped: usize) -> Cut
     requires { ⌜ (count ≤ length (now work)) × (count < longest family) ⌝ }
-    requires { ⌜ (length (now work) ≤ 266) × (taken + 266 < 2 ^ 64) × (skipped + 266 < 2 ^ 64) ⌝ }
+    requires { ⌜ (taken + length (now work) < 2 ^ 64) × (skipped + length (now work) < 2 ^ 64) ⌝ }
     ensures { λ r. ⌜ Cuts family (now (work .entry)) count taken skipped r ⌝ }
 {
     match seek(family, work) {
@@ -113,17 +113,15 @@ fn search(family: u8, work: &[u8], count: usize, taken: usize, skipped: usize) -
     }
 }
 
-// A call on the next piece, behind bytes taken and skipped before it.
-fn take_piece(family: u8, held: &[u8], piece: &[u8], taken: usize, skipped: usize) -> Turn
-    requires { ⌜ (length (now held) < longest family) × (length (now held) ≤ 133) × (length (now piece) ≤ 133) ⌝ }
-    requires { ⌜ (taken + 266 < 2 ^ 64) × (skipped + 266 < 2 ^ 64) ⌝ }
-    ensures { λ r. ⌜ r ≡ turnedFrom taken skipped (call (head family) (now (held .entry)) (now (piece .entry))) ⌝ }
+// The turn of that: what it says, and a copy of what it keeps.
+fn turn_of(family: u8, work: &[u8], count: usize, taken: usize, skipped: usize) -> Turn
+    requires { ⌜ (count ≤ length (now work)) × (count < longest family) ⌝ }
+    requires { ⌜ (taken + length (now work) < 2 ^ 64) × (skipped + length (now work) < 2 ^ 64) ⌝ }
+    ensures { λ r. ⌜ r ≡ turnedFrom taken skipped (callOn family (now (work .entry)) count) ⌝ }
 {
-    let work = join(held, piece);
-    let bytes = text(&work, 0, held.len() + piece.len());
-    let c = search(family, bytes, held.len(), taken, skipped);
+    let c = search(family, work, count, taken, skipped);
     let step = c.step;
-    let kept = keep(bytes, c.from, c.to - c.from);
+    let kept = keep(work, c.from, c.to - c.from);
     Turn {
         step,
         held: kept,
@@ -131,28 +129,34 @@ fn take_piece(family: u8, held: &[u8], piece: &[u8], taken: usize, skipped: usiz
     }
 }
 
-// A call on all that is offered, piece by piece.
+// A call on a piece, which stands with the held bytes in the buffer.
+fn take_piece(family: u8, held: &[u8], piece: &[u8]) -> Turn
+    requires { ⌜ (length (now held) < longest family) × (length (now held) ≤ 133) × (length (now piece) ≤ 133) ⌝ }
+    ensures { λ r. ⌜ r ≡ turned (call (head family) (now (held .entry)) (now (piece .entry))) ⌝ }
+{
+    let work = join(held, piece);
+    let bytes = text(&work, 0, held.len() + piece.len());
+    turn_of(family, bytes, held.len(), 0, 0)
+}
+
+// A call on all that is offered. Where a whole piece with the held bytes leaves no frame, what is kept
+// is no longer than the piece, so it is the piece's last bytes, and the call goes on from there.
 pub(crate) fn run(family: u8, held: &[u8], offered: &[u8]) -> Turn
     requires { ⌜ (length (now held) < longest family) × (length (now held) ≤ 133) ⌝ }
     ensures { λ r. ⌜ r ≡ turned (call (head family) (now (held .entry)) (now (offered .entry))) ⌝ }
 {
-    let mut turn = take_piece(family, held, text(offered, 0, 133), 0, 0);
-    let mut done = 133;
-    while done < offered.len() {
-        let step = turn.step;
-        let Step::Waiting(taken, skipped) = step else {
-            return turn;
-        };
-        let kept = turn.held;
-        let count = turn.count;
-        turn = take_piece(
-            family,
-            text(&kept, 0, count),
-            text(offered, done, 133),
-            taken,
-            skipped,
-        );
-        done += 133;
+    if held.len() == 0 {
+        return turn_of(family, offered, 0, 0, 0);
     }
-    turn
+    let turn = take_piece(family, held, text(offered, 0, 133));
+    if offered.len() <= 133 {
+        return turn;
+    }
+    let step = turn.step;
+    let Step::Waiting(taken, skipped) = step else {
+        return turn;
+    };
+    let count = turn.count;
+    let from = 133 - count;
+    turn_of(family, &offered[from..], count, taken, skipped)
 }

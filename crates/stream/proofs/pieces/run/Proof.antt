@@ -1,127 +1,123 @@
--- `stream::pieces::run` meets its contract. The loop's invariant: the turn is that of the call on the first `done` bytes.
--- The measure is what is left of the bytes offered.
+-- `stream::pieces::run` meets its contract: where nothing is held, the bytes offered are searched; else the first piece is
+-- taken, and where that leaves no frame, the search goes on from what was kept.
 -- Assumes nothing.
 use Prim.Native.Nat.{ℕ, _+_, _-_, _≤_}
 use mathlib.Core.Path.{_≡_, sym, ap, _∙_}
-use mathlib.Core.List.{List, _++_}
+use mathlib.Core.List.{List, []}
 use native.Mathlib.Omega.{arith}
 use borrow.Author.Needs.{needs}
-use lib.ListN.{length, take, drop, length-take, take-append-drop}
-use lib.Seq.{take-all, take-add}
-use Rattle.rules.specs.Bytes.{part}
+use lib.ListN.{length, take, drop, length-take, length-drop, take-append-drop, drop-of-length-le}
+use lib.Seq.{take-all}
 use Rattle.stream_rules.specs.Heads.{head}
 use Rattle.stream_rules.specs.Rule.{call}
 use Rattle.stream_laws.proofs.States.{longest-fits}
-use Rattle.stream.specs.Turns.{turnedFrom, turned}
+use Rattle.stream.specs.Turns.{callOn, turnedFrom, turned}
 use Rattle.stream.proofs.Onward.{stays-ready, Goes, waits-on}
 use Rattle.stream.proofs.pieces.run.Statement.{statement}
 use Rattle.stream.proofs.pieces.run.Tie as tie
 
-abbrev Inv-loop : tie.InvT-loop
-Inv-loop family held offered turn₀ done₀ turn done =
-    (done ≤ length offered + 133) × (turn ≡ turned (call (head family) held (take done offered)))
+-- the turn of the piece
+piece : (c : tie.After-take-piece) → c .take-piece .result ≡ turned (call (head (c .before .before .before .before .before .args .family)) (c .before .before .before .before .before .args .held .now) (take 133 (c .before .before .before .before .before .args .offered .now)))
+piece c =
+    let a = c .before .before .before .before .before .args in
+    c .take-piece .ensures ∙ ap (λ (l : List ℕ). turned (call (head (a .family)) (a .held .now) l)) (c .before .text .ensures .content)
 
-abbrev μ-loop : tie.MeasureT-loop
-μ-loop family held offered turn₀ done₀ turn done = length offered - done
-
--- where more is wanted, what the next piece is taken with
-next : (c : tie.After-step Inv-loop μ-loop) → Goes (c .before .before .before .before .before .before .before .before .args .family) (c .before .before .before .before .before .before .before .before .args .held .now) (take (c .before .before .before .loop .done) (c .before .before .before .before .before .before .before .before .args .offered .now)) (part (c .before .before .before .loop .done) 133 (c .before .before .before .before .before .before .before .before .args .offered .now)) (c .before .before .before .loop .turn) (c .step .given .0 .0) (c .step .given .0 .1 .0)
+-- where it leaves no frame, how the call goes on
+next : (c : tie.After-step) → Goes (c .before .before .before .before .before .before .before .before .args .family) (c .before .before .before .before .before .before .before .before .args .held .now) (c .before .before .before .before .before .before .before .before .args .offered .now) (c .before .before .before .take-piece .result) (c .step .given .0 .0) (c .step .given .0 .1 .0)
 next c =
     let a = c .before .before .before .before .before .before .before .before .args in
-    let loop = c .before .before .before .loop in
-    waits-on (a .family) (a .held .now) (take (loop .done) (a .offered .now)) (part (loop .done) 133 (a .offered .now)) (loop .turn) _ _ (loop .inv .1) (c .step .given .1)
+    waits-on (a .family) (a .held .now) (a .offered .now) (omega (arith, c .before .before .if2 .left)) _ _ _ (piece (c .before .before .before)) (c .step .given .1)
 
-text-requires : tie.Need-text-requires Inv-loop μ-loop
+turn-of-requires : tie.Need-turn-of-requires
+turn-of-requires c κs = search needs
+
+returns : tie.Need-returns
+returns c =
+    let a = c .before .before .before .before .args in
+    let none : a .held .now ≡ [] = drop-of-length-le (a .held .now) {i = 0} (omega (arith, c .before .if1 .taken)) in
+    c .turn-of .ensures ∙ ap (λ (l : List ℕ). turned (call (head (a .family)) l (a .offered .now))) (sym none)
+
+text-requires : tie.Need-text-requires
 text-requires c κs = search needs
 
-take-piece-requires : tie.Need-take-piece-requires Inv-loop μ-loop
+take-piece-requires : tie.Need-take-piece-requires
 take-piece-requires c κs =
-    let start = c .before .before .before in
+    let start = c .before .before .before .before in
     let size = ap length (c .text .ensures .content) ∙ length-take 133 (start .args .offered .now) in
-    ((start .pre .0, start .pre .1, omega (arith, size)), (omega arith, omega arith))
+    (start .pre .0, start .pre .1, omega (arith, size))
 
-loop-holds : tie.Need-loop-holds Inv-loop μ-loop
-loop-holds c =
-    let a = c .before .before .before .before .args in
-    (omega arith, c .take-piece .ensures ∙ ap (λ (l : List ℕ). turned (call (head (a .family)) (a .held .now) l)) (c .before .text .ensures .content))
+returns-2 : tie.Need-returns-2
+returns-2 c =
+    let a = c .before .before .before .before .before .before .args in
+    piece (c .before) ∙ ap (λ (l : List ℕ). turned (call (head (a .family)) (a .held .now) l)) (take-all 133 (a .offered .now) (c .if2 .taken))
 
-enum-known-step : tie.Need-enum-known-step Inv-loop μ-loop
+enum-known-step : tie.Need-enum-known-step
 enum-known-step c = search needs
 
-enum-told : tie.Need-enum-told Inv-loop μ-loop
+enum-told : tie.Need-enum-told
 enum-told c = search needs
 
-returns : tie.Need-returns Inv-loop μ-loop
-returns c =
+returns-3 : tie.Need-returns-3
+returns-3 c =
     let a = c .before .before .before .before .before .before .before .before .args in
-    let loop = c .before .before .before .loop in
-    stays-ready (a .family) (a .held .now) (take (loop .done) (a .offered .now)) (drop (loop .done) (a .offered .now)) (loop .turn) (loop .inv .1) (c .before .match .keys2)
-    ∙ ap (λ (l : List ℕ). turned (call (head (a .family)) (a .held .now) l)) (take-append-drop (loop .done) (a .offered .now))
+    stays-ready (a .family) (a .held .now) (take 133 (a .offered .now)) (drop 133 (a .offered .now)) _ (piece (c .before .before .before)) (c .before .match .keys2)
+    ∙ ap (λ (l : List ℕ). turned (call (head (a .family)) (a .held .now) l)) (take-append-drop 133 (a .offered .now))
 
-slice-aggregate-text : tie.Need-slice-aggregate-text Inv-loop μ-loop
-slice-aggregate-text c = sym (next (c .before .before .before) .places)
+-- what was kept is no longer than the piece
+fits : (c : tie.After-known-told) → c .before .before .before .before .take-piece .result .count ≤ 133
+fits c = omega (arith, next (c .before) .short, longest-fits (c .before .before .before .before .before .before .before .before .before .args .family))
 
-text-requires-2 : tie.Need-text-requires-2 Inv-loop μ-loop
-text-requires-2 c κs = search needs
+sub-from : tie.Need-sub-from
+sub-from c = fits c
 
-text-requires-3 : tie.Need-text-requires-3 Inv-loop μ-loop
-text-requires-3 c κs = search needs
+sub-turn-of : tie.Need-sub-turn-of
+sub-turn-of c = search needs
 
-take-piece-requires-2 : tie.Need-take-piece-requires-2 Inv-loop μ-loop
-take-piece-requires-2 c κs =
-    let start = c .before .before .before .before .before .before .before .before .before .before .before .before .before in
+part-turn-of-start : tie.Need-part-turn-of-start
+part-turn-of-start c = search needs
+
+part-turn-of-end : tie.Need-part-turn-of-end
+part-turn-of-end c = search needs
+
+-- the bytes from there on
+rest-is : (from : ℕ) (bs : List ℕ) → take (length bs - from) (drop from bs) ≡ drop from bs
+rest-is from bs = take-all (length bs - from) (drop from bs) (omega (arith, length-drop from bs))
+
+turn-of-requires-2 : tie.Need-turn-of-requires-2
+turn-of-requires-2 c κs =
+    let start = c .before .before .before .before .before .before .before .before .before .before in
     let a = start .args in
-    let loop = c .before .before .before .before .before .before .before .before .loop in
-    let goes = next (c .before .before .before .before .before) in
-    let held-size : length (c .before .text2 .result .now) ≡ length (take (loop .turn .count) (loop .turn .held)) = ap length (c .before .text2 .ensures .content) in
-    let piece-size = ap length (c .text3 .ensures .content) ∙ length-take 133 (drop (loop .done) (a .offered .now)) in
-    let cs-size = length-take (loop .done) (a .offered .now) in (
-      (omega (arith, held-size, goes .kept-short), omega (arith, held-size, goes .kept-short, longest-fits (a .family)), omega (arith, piece-size)),
-      (omega (arith, goes .all-taken, cs-size, start .good), omega (arith, goes .few-skipped, cs-size, start .good, start .pre)),
+    let from = 133 - c .before .before .before .before .before .take-piece .result .count in
+    let goes = next (c .before .before) in
+    let size = ap length (rest-is from (a .offered .now)) ∙ length-drop from (a .offered .now) in (
+      (omega (arith, size, fits (c .before), c .before .before .before .before .if2 .left), goes .short),
+      (omega (arith, size, goes .all-taken, start .good), omega (arith, size, goes .few-skipped, start .good, start .pre .1)),
     )
 
-add-done : tie.Need-add-done Inv-loop μ-loop
-add-done c = omega (arith, c .before .before .before .before .before .before .before .before .loop-test .taken, c .before .before .before .before .before .before .before .before .before .before .before .before .before .before .good)
-
-loop-less : tie.Need-loop-less Inv-loop μ-loop
-loop-less c = omega arith
-
-loop-again : tie.Need-loop-again Inv-loop μ-loop
-loop-again c =
-    let a = c .before .before .before .before .before .before .before .before .before .before .before .before .before .before .args in
-    let loop = c .before .before .before .before .before .before .before .before .before .loop in
-    let step = c .before .before .before .before .before .before .step .given .0 in
-    let whole : take (loop .done) (a .offered .now) ++ part (loop .done) 133 (a .offered .now) ≡ take (loop .done + 133) (a .offered .now) = sym (take-add (loop .done) 133 (a .offered .now)) in (
-      omega (arith, c .before .before .before .before .before .before .before .before .loop-test .taken),
-      c .take-piece2 .ensures
-          ∙ (λ i. turnedFrom (step .0) (step .1 .0) (call (head (a .family)) (c .before .before .text2 .ensures .content i) (c .before .text3 .ensures .content i)))
-          ∙ next (c .before .before .before .before .before .before) .goes-on
-          ∙ ap (λ (l : List ℕ). turned (call (head (a .family)) (a .held .now) l)) whole,
-    )
-
-returns-2 : tie.Need-returns-2 Inv-loop μ-loop
-returns-2 c =
-    let loop = c .before .loop in
-    let a = c .before .before .before .before .before .before .args in
-    loop .inv .1 ∙ ap (λ (l : List ℕ). turned (call (head (a .family)) (a .held .now) l)) (take-all (loop .done) (a .offered .now) (c .loop-test .left))
+returns-4 : tie.Need-returns-4
+returns-4 c =
+    let a = c .before .before .before .before .before .before .before .before .before .before .before .args in
+    let turn = c .before .before .before .before .before .before .take-piece .result in
+    let step = c .before .before .before .step .given .0 in
+    c .turn-of2 .ensures
+    ∙ ap (λ (l : List ℕ). turnedFrom (step .0) (step .1 .0) (callOn (a .family) l (turn .count))) (rest-is (133 - turn .count) (a .offered .now))
+    ∙ next (c .before .before .before) .goes-on
 
 pub run-spec : {M : Type 1} → statement M
 run-spec =
     tie.close
     (tie.spec
-    Inv-loop
-    μ-loop
+    turn-of-requires
+    returns
     text-requires
     take-piece-requires
-    loop-holds
+    returns-2
     enum-known-step
     enum-told
-    returns
-    slice-aggregate-text
-    text-requires-2
-    text-requires-3
-    take-piece-requires-2
-    add-done
-    loop-less
-    loop-again
-    returns-2)
+    returns-3
+    sub-from
+    sub-turn-of
+    part-turn-of-start
+    part-turn-of-end
+    turn-of-requires-2
+    returns-4)
