@@ -7,12 +7,13 @@ use seek::Hit;
 use seek::Sought;
 use seek::seek;
 ghost use mathlib.Core.Path.{_≡_};
+ghost use mathlib.Core.List.{[]};
 ghost use Prim.Native.Nat.{max, _+_, _-_, _^_, _≤_, _<_};
 ghost use lib.ListN.{length, take, drop};
 ghost use Rattle.rules.specs.Bytes.{part};
 ghost use Rattle.stream_rules.specs.Heads.{longest, head};
 ghost use Rattle.stream_rules.specs.Rule.{call};
-ghost use Rattle.stream.specs.Turns.{filled, callOn, turnedFrom, turned, Cuts, Joined};
+ghost use Rattle.stream.specs.Turns.{filled, callOn, turnWith, turnedFrom, turned, Cuts};
 
 // A frame that is ready: the bytes taken, the bytes skipped, its length, and what it says.
 pub struct Got {
@@ -33,6 +34,12 @@ pub struct Cut {
     pub step: Step,
     pub from: usize,
     pub to: usize,
+}
+
+// A step, and how many bytes are kept, in lent places.
+pub struct Next {
+    pub step: Step,
+    pub count: usize,
 }
 
 // A step, and the bytes that are kept.
@@ -71,17 +78,6 @@ pub(crate) fn keep(s: &[u8], a: usize, n: usize) -> [u8; 133]
     held
 }
 
-// The held bytes and those of a piece, one behind the other.
-fn join(held: &[u8], piece: &[u8]) -> [u8; 266]
-    requires { ⌜ (length (now held) ≤ 133) × (length (now piece) ≤ 133) ⌝ }
-    ensures { λ r. ⌜ Joined (now (held .entry)) (now (piece .entry)) r ⌝ }
-{
-    let mut work = [0u8; 266];
-    put_bytes(&mut work, 0, held);
-    put_bytes(&mut work, held.len(), piece);
-    work
-}
-
 // What a call does with bytes whose first ones it held.
 fn search(family: u8, work: &[u8], count: usize, taken: usize, skipped: usize) -> Cut
     requires { ⌜ (count ≤ length (now work)) × (count < longest family) ⌝ }
@@ -113,50 +109,76 @@ fn search(family: u8, work: &[u8], count: usize, taken: usize, skipped: usize) -
     }
 }
 
-// The turn of that: what it says, and a copy of what it keeps.
-fn turn_of(family: u8, work: &[u8], count: usize, taken: usize, skipped: usize) -> Turn
+// What such a call says and how many bytes it keeps, which are laid into lent places of zeros. (Lent,
+// because an array that a function gives back is copied by each function above it.)
+fn turn_of(
+    family: u8,
+    work: &[u8],
+    count: usize,
+    taken: usize,
+    skipped: usize,
+    kept: &mut [u8; 133],
+) -> Next
     requires { ⌜ (count ≤ length (now work)) × (count < longest family) ⌝ }
     requires { ⌜ (taken + length (now work) < 2 ^ 64) × (skipped + length (now work) < 2 ^ 64) ⌝ }
-    ensures { λ r. ⌜ r ≡ turnedFrom taken skipped (callOn family (now (work .entry)) count) ⌝ }
+    requires { ⌜ now kept ≡ filled [] ⌝ }
+    ensures { λ r. ⌜ turnWith r (now (kept .exit)) ≡ turnedFrom taken skipped (callOn family (now (work .entry)) count) ⌝ }
 {
     let c = search(family, work, count, taken, skipped);
     let step = c.step;
-    let kept = keep(work, c.from, c.to - c.from);
-    Turn {
-        step,
-        held: kept,
-        count: c.to - c.from,
-    }
+    let left = c.to - c.from;
+    put_bytes(kept, 0, text(work, c.from, left));
+    Next { step, count: left }
 }
 
-// A call on a piece, which stands with the held bytes in the buffer.
-fn take_piece(family: u8, held: &[u8], piece: &[u8]) -> Turn
+// A call on a piece, which stands with the held bytes in a buffer.
+fn take_piece(family: u8, held: &[u8], piece: &[u8], kept: &mut [u8; 133]) -> Next
     requires { ⌜ (length (now held) < longest family) × (length (now held) ≤ 133) × (length (now piece) ≤ 133) ⌝ }
-    ensures { λ r. ⌜ r ≡ turned (call (head family) (now (held .entry)) (now (piece .entry))) ⌝ }
+    requires { ⌜ now kept ≡ filled [] ⌝ }
+    ensures { λ r. ⌜ turnWith r (now (kept .exit)) ≡ turned (call (head family) (now (held .entry)) (now (piece .entry))) ⌝ }
 {
-    let work = join(held, piece);
+    let mut work = [0u8; 266];
+    put_bytes(&mut work, 0, held);
+    put_bytes(&mut work, held.len(), piece);
     let bytes = text(&work, 0, held.len() + piece.len());
-    turn_of(family, bytes, held.len(), 0, 0)
+    turn_of(family, bytes, held.len(), 0, 0, kept)
 }
 
 // A call on all that is offered. Where a whole piece with the held bytes leaves no frame, what is kept
 // is no longer than the piece, so it is the piece's last bytes, and the call goes on from there.
+fn advance(family: u8, held: &[u8], offered: &[u8], kept: &mut [u8; 133]) -> Next
+    requires { ⌜ (length (now held) < longest family) × (length (now held) ≤ 133) ⌝ }
+    requires { ⌜ now kept ≡ filled [] ⌝ }
+    ensures { λ r. ⌜ turnWith r (now (kept .exit)) ≡ turned (call (head family) (now (held .entry)) (now (offered .entry))) ⌝ }
+{
+    if held.len() == 0 {
+        return turn_of(family, offered, 0, 0, 0, kept);
+    }
+    let next = take_piece(family, held, text(offered, 0, 133), kept);
+    if offered.len() <= 133 {
+        return next;
+    }
+    let step = next.step;
+    let Step::Waiting(taken, skipped) = step else {
+        return next;
+    };
+    let count = next.count;
+    let from = 133 - count;
+    *kept = [0u8; 133];
+    turn_of(family, &offered[from..], count, taken, skipped, kept)
+}
+
+// The same, with the places that it fills.
 pub(crate) fn run(family: u8, held: &[u8], offered: &[u8]) -> Turn
     requires { ⌜ (length (now held) < longest family) × (length (now held) ≤ 133) ⌝ }
     ensures { λ r. ⌜ r ≡ turned (call (head family) (now (held .entry)) (now (offered .entry))) ⌝ }
 {
-    if held.len() == 0 {
-        return turn_of(family, offered, 0, 0, 0);
+    let mut kept = [0u8; 133];
+    let next = advance(family, held, offered, &mut kept);
+    let step = next.step;
+    Turn {
+        step,
+        held: kept,
+        count: next.count,
     }
-    let turn = take_piece(family, held, text(offered, 0, 133));
-    if offered.len() <= 133 {
-        return turn;
-    }
-    let step = turn.step;
-    let Step::Waiting(taken, skipped) = step else {
-        return turn;
-    };
-    let count = turn.count;
-    let from = 133 - count;
-    turn_of(family, &offered[from..], count, taken, skipped)
 }
