@@ -144,6 +144,26 @@ fn take_piece(family: u8, held: &[u8], piece: &[u8], kept: &mut [u8; 133]) -> Ne
     turn_of(family, bytes, held.len(), 0, 0, kept)
 }
 
+// A call on few bytes, for which the lent places have room behind the held ones. They stay as they
+// stand there while nothing is decided.
+fn take_few(family: u8, held: &[u8], few: &[u8], kept: &mut [u8; 133]) -> Next
+    requires { ⌜ (length (now held) < longest family) × (length (now held) + length (now few) ≤ 133) ⌝ }
+    requires { ⌜ now kept ≡ filled [] ⌝ }
+    ensures { λ r. ⌜ turnWith r (now (kept .exit)) ≡ turned (call (head family) (now (held .entry)) (now (few .entry))) ⌝ }
+{
+    put_bytes(kept, 0, held);
+    put_bytes(kept, held.len(), few);
+    let all = held.len() + few.len();
+    let c = search(family, text(kept, 0, all), held.len(), 0, 0);
+    let step = c.step;
+    let count = c.to - c.from;
+    if count != all {
+        let places = *kept;
+        *kept = keep(text(&places, 0, all), c.from, count);
+    }
+    Next { step, count }
+}
+
 // A call on all that is offered. Where a whole piece with the held bytes leaves no frame, what is kept
 // is no longer than the piece, so it is the piece's last bytes, and the call goes on from there.
 fn advance(family: u8, held: &[u8], offered: &[u8], kept: &mut [u8; 133]) -> Next
@@ -153,6 +173,9 @@ fn advance(family: u8, held: &[u8], offered: &[u8], kept: &mut [u8; 133]) -> Nex
 {
     if held.len() == 0 {
         return turn_of(family, offered, 0, 0, 0, kept);
+    }
+    if offered.len() <= 133 - held.len() {
+        return take_few(family, held, offered, kept);
     }
     let next = take_piece(family, held, text(offered, 0, 133), kept);
     if offered.len() <= 133 {
