@@ -8,13 +8,13 @@ use native.Mathlib.Omega.{arith}
 use lib.ListN.{length, take, drop, replicate, length-append, length-replicate}
 use lib.Seq.{take-at}
 use Rattle.pens.specs.Pens.{laid}
-use Rattle.pens.proofs.Laid.{laid-front, laid-behind, length-laid}
-use Rattle.stream.specs.Turns.{filled, Joined}
+use Rattle.pens.proofs.Laid.{laid-front, laid-behind}
+use Rattle.stream.specs.Turns.{filled}
 
 abbrev pub zeros : ℕ → List ℕ
 zeros n = replicate n 0
 
-length-zeros : (n : ℕ) → length (zeros n) ≡ n
+pub length-zeros : (n : ℕ) → length (zeros n) ≡ n
 length-zeros n = length-replicate n 0
 
 drop-zeros : (k n : ℕ) → drop k (zeros n) ≡ zeros (n - k)
@@ -26,16 +26,19 @@ drop-zeros (suc k) (suc n) = drop-zeros k n ∙ ap zeros (sym (suc-sub-suc n k))
 pub fills : (bs : List ℕ) → length bs ≤ 133 → laid 0 bs (zeros 133) ≡ filled bs
 fills bs h = laid-front bs (zeros 133) (omega (arith, length-zeros 133)) ∙ ap (λ (l : List ℕ). bs ++ l) (drop-zeros (length bs) 133)
 
--- held bytes and a piece laid one behind the other
-pub joins : (held piece : List ℕ) → length held ≤ 133 → length piece ≤ 133 → Joined held piece (laid (length held) piece (laid 0 held (zeros 266)))
-joins held piece h k =
-    let room : length held + length piece ≤ length (zeros 266) = omega (arith, length-zeros 266) in
-    let both : laid (length held) piece (laid 0 held (zeros 266)) ≡ (held ++ piece) ++ drop (length (held ++ piece)) (zeros 266) =
-    ap (λ (a : ℕ). laid a piece (laid 0 held (zeros 266))) (sym (zero-add (length held)))
-    ∙ laid-behind 0 held piece (zeros 266) (omega (arith, room))
-    ∙ laid-front (held ++ piece) (zeros 266) (omega (arith, room, length-append held piece)) in
-    record {
-      front = ap (take (length held + length piece)) both
-          ∙ take-at (held ++ piece) (drop (length (held ++ piece)) (zeros 266)) (length held + length piece) (length-append held piece);
-      size = length-laid (length held) piece (laid 0 held (zeros 266)) ∙ length-laid 0 held (zeros 266) ∙ length-zeros 266;
-    }
+-- bytes laid behind others are laid with them
+laid-both : (held piece l : List ℕ) → length held + length piece ≤ length l → laid (length held) piece (laid 0 held l) ≡ laid 0 (held ++ piece) l
+laid-both held piece l room =
+    ap (λ (a : ℕ). laid a piece (laid 0 held l)) (sym (zero-add (length held))) ∙ laid-behind 0 held piece l (omega (arith, room))
+
+-- held bytes and a piece at the front of a buffer
+pub joins : (held piece work : List ℕ) → length held + length piece ≤ length work
+    → take (length held + length piece) (laid (length held) piece (laid 0 held work)) ≡ held ++ piece
+joins held piece work room =
+    ap (take (length held + length piece)) (laid-both held piece work room ∙ laid-front (held ++ piece) work (omega (arith, room, length-append held piece)))
+    ∙ take-at (held ++ piece) (drop (length (held ++ piece)) work) (length held + length piece) (length-append held piece)
+
+-- the same at the front of the held places
+pub fills-both : (held piece : List ℕ) → length held + length piece ≤ 133 → laid (length held) piece (laid 0 held (zeros 133)) ≡ filled (held ++ piece)
+fills-both held piece room =
+    laid-both held piece (zeros 133) (omega (arith, room, length-zeros 133)) ∙ fills (held ++ piece) (omega (arith, room, length-append held piece))

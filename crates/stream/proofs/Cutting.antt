@@ -6,7 +6,7 @@ use mathlib.Core.Path.{_≡_, refl, sym, ap, _∙_}
 use mathlib.Core.List.{List, [], _∷_, _++_}
 use native.Mathlib.Nat.{sub-zero, suc-sub-suc, le-of-suc-le-suc}
 use native.Mathlib.Omega.{arith}
-use lib.ListN.{length, take, drop, length-drop, take-append-drop}
+use lib.ListN.{length, take, drop, length-take, length-drop, take-append-drop}
 use lib.Seq.{take-all, take-nil, length-take-le}
 use Rattle.rules.specs.Bytes.{part}
 use Rattle.stream_rules.specs.Heads.{longest, head}
@@ -21,11 +21,12 @@ use Rattle.seek_laws.proofs.Jump.{Jump, jump, upTo}
 use Rattle.seek.specs.Sought.{soughtIn}
 use Rattle.seek.specs.declared.Hit.{Hit}
 use Rattle.seek.specs.declared.Sought.the-variants.{Ready, Waiting}
-use Rattle.stream.specs.Turns.{stepFrom, keptOf, callOn, Cuts}
+use Rattle.stream.specs.Turns.{filled, stepFrom, keptOf, callOn, turnedFrom, Cuts}
+use Rattle.stream.specs.declared.pieces.Cut.{Cut}
 use Rattle.stream.specs.declared.pieces.Step.the-variants.{Ready as StepReady, Waiting as StepWaiting}
 
 -- a part, cut at its end first
-drop-take : (a p : ℕ) (l : List ℕ) → a ≤ p → drop a (take p l) ≡ take (p - a) (drop a l)
+pub drop-take : (a p : ℕ) (l : List ℕ) → a ≤ p → drop a (take p l) ≡ take (p - a) (drop a l)
 drop-take zero p l h = ap (λ (n : ℕ). take n l) (sym (sub-zero p))
 drop-take (suc a) zero l h = absurd (omega arith)
 drop-take (suc a) (suc p) [] h = sym (take-nil (suc p - suc a))
@@ -110,3 +111,22 @@ module _ (family : ℕ) (work : List ℕ) (count t s : ℕ) (there : count ≤ l
         within = omega (arith, j .there, there-is);
         short = j .short (omega (arith, size));
       }
+
+-- What was cut is the turn of the call, where the bytes kept stand in the held places.
+pub turns : (family : ℕ) (work : List ℕ) (count t s : ℕ) (c : Cut) (kept : List ℕ) → Cuts family work count t s c
+    → kept ≡ filled (part (c .from) (c .to - c .from) work)
+    → record { step = c .step; held = kept; count = c .to - c .from } ≡ turnedFrom t s (callOn family work count)
+turns family work count t s c kept cuts k =
+    let size : c .to - c .from ≡ length (part (c .from) (c .to - c .from) work) =
+    omega (arith, length-take (c .to - c .from) (drop (c .from) work), length-drop (c .from) work, cuts .order, cuts .within) in
+    λ i. record {
+      step = cuts .says i;
+      held = (k ∙ ap filled (cuts .keeps)) i;
+      count = (size ∙ ap length (cuts .keeps)) i;
+    }
+
+-- As much as there is can be cut from the front only.
+pub cut-whole : (from to : ℕ) (work : List ℕ) → from ≤ to → to ≤ length work → to - from ≡ length work → part from (to - from) work ≡ work
+cut-whole from to work order within all =
+    let front : from ≡ 0 = omega arith in
+    ap (λ (j : ℕ). take (to - from) (drop j work)) front ∙ take-all (to - from) work (omega arith)

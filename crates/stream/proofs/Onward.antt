@@ -1,5 +1,5 @@
--- How a call goes on from piece to piece: a frame that is ready stays so, and where more is wanted the next piece is taken
--- with what was kept.
+-- How a call goes on behind a piece: a frame that is ready stays so, and where more is wanted, what was kept is the end of
+-- the piece, so that the call is the one on the bytes offered from there on.
 -- Assumes nothing.
 use Prim.Native.Nat.{ℕ, _+_, _-_, _≤_, _<_}
 use mathlib.Core.Path.{_≡_, refl, sym, ap, subst, _∙_}
@@ -8,18 +8,19 @@ use native.Mathlib.Nat.{zero-add}
 use native.Mathlib.Omega.{arith}
 use denote.Enum.Declared.{tagOf}
 use types.Run.{OneOf, miss}
-use lib.ListN.{length, take, drop, replicate, length-append, length-replicate}
-use lib.Seq.{take-append-seam, drop-append-seam}
+use lib.ListN.{length, take, drop, take-append-drop}
+use lib.Seq.{length-take-le, drop-drop, take-append-seam, drop-append-seam, drop-append-add}
 use Rattle.stream_rules.specs.Heads.{longest, head}
 use Rattle.stream_rules.specs.Rule.{Call, gives, wants, call}
-use Rattle.stream_laws.proofs.Calls.{call-wants, wants-adds-up}
+use Rattle.stream_laws.proofs.Calls.{call-wants, wants-first, wants-adds-up}
 use Rattle.seek_laws.proofs.Families.{facts}
 use Rattle.seek_laws.proofs.Calls.{after, piece-gives, piece-wants, piece-keeps}
 use Rattle.stream_laws.proofs.States.{longest-fits}
-use Rattle.stream.specs.Turns.{filled, callOn, turnedFrom, turned}
+use Rattle.stream.specs.Turns.{callOn, turnedFrom, turned}
 use Rattle.stream.specs.declared.pieces.Step.the-variants.{Ready, Waiting}
 use Rattle.stream.specs.declared.pieces.Turn.{Turn}
 use Rattle.stream.proofs.pieces.Step.{the-type}
+use Rattle.stream.proofs.Cutting.{drop-take}
 
 -- The call on a buffer is the call that held its first bytes and was offered the others.
 pub call-same : (family : ℕ) (held piece work : List ℕ) → work ≡ held ++ piece → callOn family work (length held) ≡ call (head family) held piece
@@ -32,9 +33,18 @@ turned-after : (t s : ℕ) (c : Call) → turnedFrom t s c ≡ turned (after t s
 turned-after t s (gives taken k n f kept) = simp zero-add
 turned-after t s (wants taken k kept) = simp zero-add
 
--- the bytes kept stand at the front of the held places
-kept-back : (kept : List ℕ) → take (length kept) (filled kept) ≡ kept
-kept-back kept = take-append-seam kept (replicate (133 - length kept) 0)
+-- what is kept of the held bytes and a piece that is long enough is the end of the piece
+end-of-piece : (held offered kept : List ℕ) (n k : ℕ) → n ≤ length offered → length kept ≤ n → k + length kept ≡ length held + n
+    → kept ≡ drop k (held ++ take n offered) → kept ≡ take (length kept) (drop (n - length kept) offered)
+end-of-piece held offered kept n k there few adds-up e =
+    let from = n - length kept in
+    let start : k ≡ length held + from = omega arith in
+    let left : n - from ≡ length kept = omega arith in
+    e
+    ∙ ap (λ (j : ℕ). drop j (held ++ take n offered)) start
+    ∙ drop-append-add held (take n offered) from
+    ∙ drop-take from n offered (omega arith)
+    ∙ ap (λ (j : ℕ). take j (drop from offered)) left
 
 module _ (family : ℕ) (held cs ds : List ℕ) where
   -- A turn with a frame is the turn of the whole call.
@@ -47,19 +57,20 @@ module _ (family : ℕ) (held cs ds : List ℕ) where
       case (wants taken k kept) is =
           absurd (miss (0 ∷ []) 1 tt (subst (λ (t : Turn). OneOf (0 ∷ []) (tagOf the-type (t .step))) (e ∙ ap turned is) ready))
 
-  -- What a turn without a frame says of the next piece: how many bytes were taken and skipped, that what was kept is
-  -- short enough to be held, and that the next turn is that of the call on both pieces.
-  pub record Goes (turn : Turn) (taken skipped : ℕ) : Type 0 where
-    pub all-taken : taken ≡ length cs
-    pub few-skipped : skipped ≤ length held + length cs
-    pub places : length (turn .held) ≡ 133
-    pub kept-short : length (take (turn .count) (turn .held)) < longest family
-    pub goes-on : turnedFrom taken skipped (call (head family) (take (turn .count) (turn .held)) ds) ≡ turned (call (head family) held (cs ++ ds))
+-- What a turn without a frame says of the rest: how many bytes were taken and skipped, that what was kept is short enough
+-- to be held, and that the turn of the bytes from there on is that of the whole call.
+pub record Goes (family : ℕ) (held offered : List ℕ) (turn : Turn) (taken skipped : ℕ) : Type 0 where
+  pub all-taken : taken ≡ 133
+  pub few-skipped : skipped ≤ length held + 133
+  pub short : turn .count < longest family
+  pub goes-on : turnedFrom taken skipped (callOn family (drop (133 - turn .count) offered) (turn .count)) ≡ turned (call (head family) held offered)
 
-  pub waits-on : (turn : Turn) (taken skipped : ℕ) → turn ≡ turned (call (head family) held cs) → turn .step ≡ Waiting taken skipped → Goes turn taken skipped
-  waits-on turn taken skipped e w = case (call (head family) held cs) refl
+module _ (family : ℕ) (held offered : List ℕ) (there : 133 ≤ length offered) where
+  pub waits-on : (turn : Turn) (taken skipped : ℕ) → turn ≡ turned (call (head family) held (take 133 offered)) → turn .step ≡ Waiting taken skipped
+      → Goes family held offered turn taken skipped
+  waits-on turn taken skipped e w = case (call (head family) held (take 133 offered)) refl
     where
-      case : (c : Call) → call (head family) held cs ≡ c → Goes turn taken skipped
+      case : (c : Call) → call (head family) held (take 133 offered) ≡ c → Goes family held offered turn taken skipped
       case (gives t k n f kept) is =
           let step : Ready (record { taken = 0 + t; skipped = 0 + k; length = n; frame = f }) ≡ Waiting taken skipped = sym (ap (λ (x : Turn). x .step) (e ∙ ap turned is)) ∙ w in
           let z : _≡_ {A = ℕ} 0 1 = cc in
@@ -68,20 +79,25 @@ module _ (family : ℕ) (held cs ds : List ℕ) where
           let step : Waiting (0 + t) (0 + k) ≡ Waiting taken skipped = sym (ap (λ (x : Turn). x .step) (e ∙ ap turned is)) ∙ w in
           let same-taken : 0 + t ≡ taken = cc in
           let same-skipped : 0 + k ≡ skipped = cc in
-          let bytes : take (turn .count) (turn .held) ≡ kept = ap (λ (x : Turn). take (x .count) (x .held)) (e ∙ ap turned is) ∙ kept-back kept in
           let was-taken : taken ≡ t = omega (arith, same-taken) in
           let was-skipped : skipped ≡ k = omega (arith, same-skipped) in
-          let everything = call-wants (head family) (longest family) (facts family) held cs t k kept is .everything in
-          let adds-up = wants-adds-up (head family) (longest family) (facts family) held cs t k kept is in
-          let short : length kept < longest family = piece-keeps (facts family) held cs t k kept is .1 in
+          let count : turn .count ≡ length kept = ap (λ (x : Turn). x .count) (e ∙ ap turned is) in
+          let everything : t ≡ 133 = call-wants (head family) (longest family) (facts family) held (take 133 offered) t k kept is .everything ∙ length-take-le 133 offered there in
+          let adds-up : k + length kept ≡ length held + 133 = wants-adds-up (head family) (longest family) (facts family) held (take 133 offered) t k kept is ∙ ap (λ (n : ℕ). length held + n) everything in
+          let few : length kept < longest family = piece-keeps (facts family) held (take 133 offered) t k kept is .1 in
+          let rest = wants-first (head family) (longest family) (facts family) held (take 133 offered) t k kept is .rest in
+          let end : kept ≡ take (length kept) (drop (133 - length kept) offered) = end-of-piece held offered kept 133 k there (omega (arith, longest-fits family)) adds-up rest in
+          let all : 133 - length kept + length kept ≡ 133 = omega (arith, longest-fits family) in
+          let behind : drop (length kept) (drop (133 - length kept) offered) ≡ drop 133 offered =
+          drop-drop (length kept) (133 - length kept) offered ∙ ap (λ (n : ℕ). drop n offered) all in
           record {
-            places = ap (λ (x : Turn). length (x .held)) (e ∙ ap turned is)
-                ∙ omega (arith, length-append kept (replicate (133 - length kept) 0), length-replicate {A = ℕ} (133 - length kept) 0, short, longest-fits family);
             all-taken = was-taken ∙ everything;
-            few-skipped = omega (arith, was-skipped, adds-up, everything);
-            kept-short = subst (λ (l : List ℕ). length l < longest family) (sym bytes) short;
-            goes-on = (λ i. turnedFrom taken skipped (call (head family) (bytes i) ds))
-                ∙ turned-after taken skipped (call (head family) kept ds)
-                ∙ (λ i. turned (after (was-taken i) (was-skipped i) (call (head family) kept ds)))
-                ∙ ap turned (sym (piece-wants (facts family) held cs t k kept is ds));
+            few-skipped = omega arith;
+            short = omega arith;
+            goes-on = ap (λ (n : ℕ). turnedFrom taken skipped (callOn family (drop (133 - n) offered) n)) count
+                ∙ (λ i. turnedFrom taken skipped (call (head family) (sym end i) (behind i)))
+                ∙ turned-after taken skipped (call (head family) kept (drop 133 offered))
+                ∙ (λ i. turned (after (was-taken i) (was-skipped i) (call (head family) kept (drop 133 offered))))
+                ∙ ap turned (sym (piece-wants (facts family) held (take 133 offered) t k kept is (drop 133 offered)))
+                ∙ ap (λ (l : List ℕ). turned (call (head family) held l)) (take-append-drop 133 offered);
           }

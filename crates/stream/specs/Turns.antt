@@ -13,16 +13,12 @@ use Rattle.stream_rules.specs.declared.Fed.{Fed}
 use Rattle.stream.specs.declared.pieces.Step.{Step}
 use Rattle.stream.specs.declared.pieces.Step.the-variants.{Ready, Waiting}
 use Rattle.stream.specs.declared.pieces.Cut.{Cut}
+use Rattle.stream.specs.declared.pieces.Next.{Next}
 use Rattle.stream.specs.declared.pieces.Turn.{Turn}
 
 -- bytes in the held places, with zeros behind them
 abbrev pub filled : List ℕ → List ℕ
 filled bytes = bytes ++ replicate (133 - length bytes) 0
-
--- the held bytes and a piece, at the front of the buffer
-pub record Joined (held piece work : List ℕ) : Type 0 where
-  pub front : take (length held + length piece) work ≡ held ++ piece
-  pub size : length work ≡ 266
 
 -- what a call says, behind t bytes taken and s skipped before it, and what it keeps
 abbrev pub stepFrom : ℕ → ℕ → Call → Step
@@ -46,6 +42,10 @@ pub record Cuts (family : ℕ) (work : List ℕ) (count t s : ℕ) (c : Cut) : T
 
 abbrev pub turnedFrom : ℕ → ℕ → Call → Turn
 turnedFrom t s c = record { step = stepFrom t s c; held = filled (keptOf c); count = length (keptOf c) }
+
+-- a step and a count, with the places that were lent
+abbrev pub turnWith : Next → List ℕ → Turn
+turnWith n held = record { step = n .step; held = held; count = n .count }
 
 abbrev pub turned : Call → Turn
 turned c = turnedFrom 0 0 c

@@ -35,7 +35,7 @@ add-t17 c =
     let start = c .before .before .before .before .before in
     let a = start .args in
     let cut = cut-waiting (a .family) (a .work .now) (a .count) (a .taken) (a .skipped) (start .pre .0 .0) (start .pre .0 .1) _ (waiting (c .before)) in
-    omega (arith, cut .order, start .pre .1 .0, start .pre .1 .2)
+    omega (arith, cut .order, start .pre .1 .1)
 
 enum-known-hit : tie.Need-enum-known-hit
 enum-known-hit c = search needs
@@ -46,7 +46,7 @@ add-behind c =
     let a = start .args in
     let hit = c .before .before .hit .given .0 .0 in
     let cut = cut-ready (a .family) (a .work .now) (a .count) (a .taken) (a .skipped) (start .pre .0 .0) (start .pre .0 .1) hit _ (ready (c .before .before)) refl in
-    omega (arith, cut .order, cut .within, start .pre .1 .0)
+    omega (arith, cut .order, cut .within, start .good)
 
 further-requires : tie.Need-further-requires
 further-requires c κs = search needs
@@ -63,7 +63,7 @@ add-t21 c =
     let a = start .args in
     let hit = c .before .before .before .before .hit .given .0 .0 in
     let cut = cut-ready (a .family) (a .work .now) (a .count) (a .taken) (a .skipped) (start .pre .0 .0) (start .pre .0 .1) hit (c .further2 .result) (ready (c .before .before .before .before)) (c .further2 .ensures ∙ ap (λ (n : ℕ). max n (a .count)) (c .before .further .ensures)) in
-    omega (arith, cut .within, start .pre .1 .0, start .pre .1 .1)
+    omega (arith, cut .within, start .pre .1 .0)
 
 add-t22 : tie.Need-add-t22
 add-t22 c =
@@ -71,7 +71,7 @@ add-t22 c =
     let a = start .args in
     let hit = c .before .before .before .before .before .hit .given .0 .0 in
     let cut = cut-ready (a .family) (a .work .now) (a .count) (a .taken) (a .skipped) (start .pre .0 .0) (start .pre .0 .1) hit (c .before .further2 .result) (ready (c .before .before .before .before .before)) (c .before .further2 .ensures ∙ ap (λ (n : ℕ). max n (a .count)) (c .before .before .further .ensures)) in
-    omega (arith, cut .order, cut .within, start .pre .1 .0, start .pre .1 .2)
+    omega (arith, cut .order, cut .within, start .pre .1 .1)
 
 returns : tie.Need-returns
 returns c =
