@@ -34,12 +34,6 @@ pub either : (a b : Bool) → (a || b) ≡ true → (a ≡ true) ⊎ (b ≡ true
 either true b e = inl refl
 either false b e = inr e
 
--- Tests that pass together have the same answer.
-pub same-answer : (a b : Bool) → (a ≡ true → b ≡ true) → (b ≡ true → a ≡ true) → a ≡ b
-same-answer true b f g = sym (f refl)
-same-answer false true f g = g refl
-same-answer false false f g = refl
-
 -- A choice, once the test's answer is known.
 pub cond-true : {A : Type 0} (b : Bool) (x y : A) → b ≡ true → cond b x y ≡ x
 cond-true b x y e = rw e

@@ -13,10 +13,10 @@ use lib.Dec.{eqb}
 use lib.ListN.{length, take, drop, getD, length-append, length-take, length-drop, take-append-drop}
 use lib.Seq.{take-at, drop-at, drop-drop}
 use borrow.Author.Tests.{eqb-true, eq-eqb, le-leb, ne-eqb, not-true}
-use Rattle.rules.specs.Bytes.{ascii, between, every, same, part}
+use Rattle.rules.specs.Bytes.{ascii, between, every, part}
 use Rattle.rules.specs.Numbers.{isDigit, isHexDigit, hexNumber, hexDigits, withZeros}
 use Rattle.rules.specs.Sentences.{sum1From, sum2From, sum1, sum2, isPayloadByte, nothingOrComma, isPayload, payloadOf, checkOf, gives, isSentence, numberOf, onto, betweenCommas, behindCommas, textsOf, commas, sentenceFrame}
-use Rattle.laws.proofs.Bytes.{both, tests, either, same-answer, between-bounds, same-eq, eq-same, every-cons, every-split, every-append, every-weaker, one-by-one}
+use Rattle.laws.proofs.Bytes.{both, tests, either, between-bounds, same-eq, eq-same, every-cons, every-split, every-append, every-weaker, one-by-one}
 use Rattle.laws.proofs.Numbers.{zeros-digits, zeros-read, zeros-write, hex-digits, hex-read, hex-write}
 
 abbrev pub noComma : ℕ → Bool
@@ -142,12 +142,6 @@ checks-given check p four good =
     let upper = only-digits (getD check 0 0) (getD check 1 0) (sum2 p) (d .0) (d .1 .0) (h .0 .1) in
     let lower = only-digits (getD check 2 0) (getD check 3 0) (sum1 p) (d .1 .1 .0) (d .1 .1 .1 .0) (h .1) in
     sym bytes ∙ sym (ap₂ (λ (u v : List ℕ). u ++ v) upper lower)
-
-pub given-by-digits : (check p : List ℕ) → length check ≡ 4 → gives check p ≡ same check (hexDigits (sum2 p) ++ hexDigits (sum1 p))
-given-by-digits check p four =
-    same-answer (gives check p) (same check (checks p))
-    (λ e. eq-same check (checks p) (checks-given check p four e))
-    (λ e. ap (λ l. gives l p) (same-eq check (checks p) e) ∙ gives-checks p)
 
 pub sentence-payload : (bs : List ℕ) → isSentence bs ≡ true → isPayload (payloadOf bs) ≡ true
 unfolding isSentence
