@@ -13,7 +13,7 @@ use borrow.Author.Count.{below-none, below-more}
 use Rattle.rules.specs.Bytes.{every}
 use Rattle.rules.specs.Sentences.{behindCommas, isDecimal}
 use Rattle.laws.proofs.Bytes.{every-split}
-use Rattle.alpha.specs.Fields.{Text, firstIs, begins, FieldAt, RowAt}
+use Rattle.alpha.specs.Fields.{Text, begins, FieldAt, RowAt}
 
 -- k fields are read, and the next one's comma stands at place a
 pub record Sofar (tests : List (Text → Bool)) (value : Text → ℕ) (r : List ℕ) (k a : ℕ) (vs : List ℕ) : Type 0 where

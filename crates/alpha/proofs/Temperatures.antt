@@ -13,7 +13,7 @@ use mir.Syntax.{w32}
 use mir.Val.{SFits, ofZ, toZ}
 use mir.ValLaws.{toZ-pos, toZ-ofZ}
 use borrow.Author.Tests.{eq-eqb, ne-eqb}
-use Rattle.rules.specs.Bytes.{ascii, oneOf, part, every, first}
+use Rattle.rules.specs.Bytes.{ascii, oneOf, part, every}
 use Rattle.rules.specs.Numbers.{isDigit, decimal, decimalFrom}
 use Rattle.rules.specs.Sentences.{isDecimal, isTemperature, temperature, whole, tenth}
 use Rattle.numbers.specs.Fields.{digitsIn}

@@ -21,7 +21,6 @@ use Rattle.rules.specs.declared.Sentence05.{Sentence05}
 use Rattle.rules.specs.declared.Reading.{Reading}
 use Rattle.rules.specs.declared.Written.{Written}
 use Rattle.stream_rules.specs.Lister.{frames, startsOf, fits, tooLong, Lists}
-use Rattle.stream_rules.specs.declared.Listed.{Listed}
 use Rattle.stream_rules.specs.declared.Listed.the-variants.{Count, Refused}
 use Rattle.promises.proofs.Demand2.{IsOne, exact, nothing-else}
 

@@ -2,16 +2,14 @@
 -- the same start.
 -- Assumes nothing.
 use Prim.Native.Nat.{ℕ, _+_}
-use mathlib.Core.Path.{_≡_, refl, sym, ap, _∙_}
+use mathlib.Core.Path.{_≡_, refl, ap}
 use mathlib.Core.Bool.{Bool, true, false, _&&_, cond}
 use mathlib.Core.List.{List, []}
-use native.Mathlib.Omega.{arith}
 use lib.Dec.{leb}
 use lib.ListN.{length, take, drop}
 use lib.Seq.{drop-drop}
 use Rattle.rules.specs.Bytes.{part}
 use Rattle.rules.specs.Answers.{isFamily}
-use Rattle.rules.specs.declared.Frame.{Frame}
 use Rattle.stream_rules.specs.Heads.{head, longest, atClose}
 use Rattle.stream_rules.specs.Rule.{Look, ready, waiting, look, byLook}
 use Rattle.stream_rules.specs.Lister.{fits, firstFrame, firstPlace, frameFrom, placeFrom}

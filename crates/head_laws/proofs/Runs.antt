@@ -5,15 +5,12 @@ use mathlib.Core.Path.{_≡_, sym, ap, _∙_}
 use mathlib.Core.Bool.{Bool, true, false, cond}
 use mathlib.Core.List.{List, [], _∷_, _++_}
 use native.Mathlib.Omega.{arith}
-use native.Mathlib.Decide.{decLt}
-use native.Mathlib.Nat.{add-comm}
-use lib.ListN.{length, take, drop, getD, length-take, length-drop, take-append-drop, drop-of-length-le}
-use lib.Seq.{drop-cons, drop-drop, getD-drop}
+use lib.ListN.{length, take, drop, length-take, length-drop, take-append-drop}
+use lib.Seq.{drop-drop}
 use Rattle.rules.specs.Bytes.{every}
 use Rattle.rules.specs.Sentences.{isPayloadByte}
 use Rattle.laws.proofs.Bytes.{every-split}
 use Rattle.stream_rules.specs.Heads.{payloadRun}
-use Rattle.head_laws.proofs.Lists.{every-at, front-at}
 
 -- how many payload bytes stand behind the first byte, without a gap
 abbrev pub run : List ℕ → ℕ
@@ -45,30 +42,6 @@ run-from bs n k there good =
     ∙ run-behind (take k t) (drop k t) good
     ∙ ap (λ m. m + length (payloadRun (drop k t))) size
     ∙ ap (λ l. k + length (payloadRun l)) (drop-drop k n bs)
-
--- The first r bytes behind the first one are payload bytes: so the run has at least those,
-module _ (bs : List ℕ) (r : ℕ) (there : r < length bs) (payload : (k : ℕ) → k < r → isPayloadByte (getD bs (k + 1) 0) ≡ true) where
-  run-over : run bs ≡ r + length (payloadRun (drop (r + 1) bs))
-  run-over =
-      let t = drop 1 bs in
-      let at : (i : ℕ) → getD t i 0 ≡ getD bs (i + 1) 0 = λ i. getD-drop 1 bs i 0 ∙ ap (λ k. getD bs k 0) (add-comm 1 i) in
-      let size = length-take r t in
-      let front = every-at isPayloadByte (take r t) (λ i h. rw (front-at t r i h, at i) (payload i (omega arith))) in
-      run-from bs 1 r (omega arith) front ∙ ap (λ k. r + length (payloadRun (drop k bs))) (add-comm 1 r)
-
-  pub run-at-least : r ≤ run bs
-  run-at-least = omega (arith, run-over)
-
-  -- and no more, where the list ends there, or the next byte is none.
-  pub run-is : (r + 1 < length bs → isPayloadByte (getD bs (r + 1) 0) ≡ false) → run bs ≡ r
-  unfolding payloadRun
-  run-is other =
-      elim (decLt (r + 1) (length bs)) [
-        | yes more ↦
-            let stops = run-stops (getD bs (r + 1) 0) (drop (suc (r + 1)) bs) (other more) in
-            omega (arith, run-over, ap (λ l. length (payloadRun l)) (drop-cons bs (r + 1) 0 more))
-        | no end ↦ omega (arith, run-over, ap (λ l. length (payloadRun l)) (drop-of-length-le bs {i = r + 1} (omega arith)))
-      ]
 
 -- The run ends within the list; and in a front of the list where that ends, if not before.
 pub run-within : (bs : List ℕ) → length (payloadRun bs) ≤ length bs

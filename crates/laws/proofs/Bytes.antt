@@ -35,12 +35,6 @@ either true b e = inl refl
 either false b e = inr e
 
 -- A choice, once the test's answer is known.
-pub cond-true : {A : Type 0} (b : Bool) (x y : A) → b ≡ true → cond b x y ≡ x
-cond-true b x y e = rw e
-
-pub cond-false : {A : Type 0} (b : Bool) (x y : A) → b ≡ false → cond b x y ≡ y
-cond-false b x y e = rw e
-
 pub cond-cases : {A : Type 0} (b : Bool) (x y z : A) → cond b x y ≡ z → ((b ≡ true) × (x ≡ z)) ⊎ ((b ≡ false) × (y ≡ z))
 cond-cases true x y z e = inl (refl, e)
 cond-cases false x y z e = inr (refl, e)

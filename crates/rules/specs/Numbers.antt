@@ -1,11 +1,11 @@
 -- Numbers in fields: decimal digits, padded numbers, hexadecimal digits.
 use Prim.Native.Nat.{ℕ, zero, suc, _+_, _-_, _*_, _/_, _%_, _^_}
 use Prim.Native.Char.{code}
-use mathlib.Core.Bool.{Bool, false, _&&_, _||_, cond, not}
+use mathlib.Core.Bool.{Bool, false, _&&_, _||_, cond}
 use mathlib.Core.List.{List, [], _∷_, _++_}
 use lib.Dec.{eqb, ltb}
 use lib.ListN.{take, drop, getD}
-use Rattle.rules.specs.Bytes.{between, every, first}
+use Rattle.rules.specs.Bytes.{between, every}
 
 abbrev pub isDigit : ℕ → Bool
 isDigit b = between (code "0") (code "9") b

@@ -19,15 +19,6 @@ abbrev pub after : ℕ → ℕ → Call → Call
 after t s (gives taken k n f kept) = gives (t + taken) (s + k) n f kept
 after t s (wants taken k kept) = wants (t + taken) (s + k) kept
 
--- After none it is the call itself, and what the others took and skipped adds up.
-pub after-none : (c : Call) → after 0 0 c ≡ c
-after-none (gives taken k n f kept) = simp zero-add
-after-none (wants taken k kept) = simp zero-add
-
-pub after-after : (t s u v : ℕ) (c : Call) → after t s (after u v c) ≡ after (t + u) (s + v) c
-after-after t s u v (gives taken k n f kept) = simp add-assoc
-after-after t s u v (wants taken k kept) = simp add-assoc
-
 -- A call on some bytes and on more, from the call on the first: its frame stays, and where more was wanted, a call that
 -- holds what was kept goes on.
 abbrev onward : (List ℕ → Head) → List ℕ → Call → Call

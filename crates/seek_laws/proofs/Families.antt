@@ -6,7 +6,7 @@ use mathlib.Core.List.{List}
 use native.Mathlib.Omega.{arith}
 use lib.ListN.{length, take, drop, length-take, length-drop}
 use Rattle.stream_rules.specs.Heads.{longest, head}
-use Rattle.stream_rules.specs.Streams.{fed, Feeds}
+use Rattle.stream_rules.specs.Streams.{Feeds}
 use Rattle.stream_rules.specs.declared.Reader.{Reader}
 use Rattle.stream_rules.specs.declared.Ready as ReadyType
 use Rattle.stream_rules.specs.declared.Answer.the-variants.{Ready}

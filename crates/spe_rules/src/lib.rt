@@ -3,7 +3,6 @@
 use leaves::one_of;
 use rules::Status;
 ghost use mathlib.Core.Path.{_≡_};
-ghost use mathlib.Core.List.{[], _∷_};
 ghost use Rattle.rules.specs.Bytes.{ascii, oneOf};
 ghost use Rattle.rules.specs.Codes.{isCode, isAckCode};
 ghost use Rattle.rules.specs.Status.{by, statusInRange};

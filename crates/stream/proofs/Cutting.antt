@@ -10,7 +10,7 @@ use lib.ListN.{length, take, drop, length-take, length-drop, take-append-drop}
 use lib.Seq.{take-all, take-nil, length-take-le}
 use Rattle.rules.specs.Bytes.{part}
 use Rattle.stream_rules.specs.Heads.{longest, head}
-use Rattle.stream_rules.specs.Rule.{Look, ready, waiting, look, byLook, wants, call}
+use Rattle.stream_rules.specs.Rule.{Look, ready, waiting, look, byLook, wants}
 use Rattle.stream_rules.specs.Settled.{settled, reach}
 use Rattle.head_laws.proofs.Heads.{GoodHead, good-head}
 use Rattle.stream_laws.proofs.Looks.{FrameFirst, OpenFirst, look-ready, look-waiting}

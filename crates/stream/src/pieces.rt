@@ -9,7 +9,7 @@ use seek::seek;
 ghost use mathlib.Core.Path.{_≡_};
 ghost use mathlib.Core.List.{[]};
 ghost use Prim.Native.Nat.{max, _+_, _-_, _^_, _≤_, _<_};
-ghost use lib.ListN.{length, take, drop};
+ghost use lib.ListN.{length};
 ghost use Rattle.rules.specs.Bytes.{part};
 ghost use Rattle.stream_rules.specs.Heads.{longest, head};
 ghost use Rattle.stream_rules.specs.Rule.{call};

@@ -130,14 +130,6 @@ closed-no-refusal : (r : Reader) (l : Look) → isNoRefusal ((closedCall r l) .a
 closed-no-refusal r (ready k n f behind) = refl
 closed-no-refusal r (waiting k rest) = refl
 
-pub open-not-refused : (r : Reader) (offered : List ℕ) → isFamily (r .family) ≡ true → r .count ≤ holds (r .family) → r .closed ≡ 0
-    → isNoRefusal ((fed r offered) .answer) ≡ true
-open-not-refused r offered p q s = rw (open-call r offered p q s) (open-no-refusal r (call (head (r .family)) (heldOf r) offered))
-
-pub closed-not-refused : (r : Reader) → isFamily (r .family) ≡ true → r .count ≤ holds (r .family) → (r .closed ≡ 0 → ⊥)
-    → isNoRefusal ((fed r []) .answer) ≡ true
-closed-not-refused r p q s = rw (closed-call r p q s) (closed-no-refusal r (look (atClose (head (r .family))) (heldOf r)))
-
 -- A refusal leaves the state as it was.
 pub refused-as-before : (r : Reader) (offered : List ℕ) → isNoRefusal ((fed r offered) .answer) ≡ false → (fed r offered) .reader ≡ r
 refused-as-before r offered =

@@ -3,15 +3,11 @@
 -- Assumes nothing.
 use Prim.Native.Nat.{ℕ, _+_, _-_, _*_, _^_, _≤_, _<_}
 use mathlib.Core.Path.{_≡_, refl, sym, ap, _∙_}
-use mathlib.Core.Bool.{Bool, true, false, _&&_, and-false}
 use native.Mathlib.Omega.{arith}
 use borrow.Author.Needs.{needs}
-use borrow.Author.Tests.{le-leb, lt-leb}
-use lib.Dec.{leb}
 use lib.ListN.{length, drop, getD}
-use Rattle.rules.specs.Bytes.{between, every}
+use Rattle.rules.specs.Bytes.{every}
 use Rattle.rules.specs.Numbers.{isDigit, decimal, decimalFrom}
-use Rattle.numbers.specs.Fields.{digitsIn}
 use Rattle.numbers.proofs.Rows.{some, too-short, too-long, broken, a-row, digit, below, above, one-more, not-all, read-on, all-read, end-read, small, grown}
 use Rattle.numbers.proofs.digits.Statement.{statement}
 use Rattle.numbers.proofs.digits.Tie as tie

@@ -4,17 +4,17 @@
 -- Assumes nothing.
 use Prim.Native.Nat.{ℕ, _+_, _-_, _≤_, _<_}
 use mathlib.Core.Path.{_≡_, refl, sym, ap, _∙_}
-use mathlib.Core.Bool.{Bool, true, false, _&&_, cond, and-false}
-use mathlib.Core.List.{List, [], _∷_}
+use mathlib.Core.Bool.{Bool, _&&_, cond, and-false}
+use mathlib.Core.List.{List, _∷_}
 use native.Mathlib.Omega.{arith}
 use borrow.Author.Needs.{needs}
 use borrow.Author.Tests.{eq-eqb, ne-eqb, le-leb, lt-leb}
-use lib.Dec.{eqb, leb}
-use lib.ListN.{length, take, drop, getD, length-drop}
+use lib.Dec.{leb}
+use lib.ListN.{length, drop, getD, length-drop}
 use lib.Seq.{take-all}
-use Rattle.rules.specs.Bytes.{every, between}
+use Rattle.rules.specs.Bytes.{every}
 use Rattle.rules.specs.Numbers.{isDigit, decimal, padded, paddedNumber}
-use Rattle.numbers.specs.Fields.{number, digitsIn, paddedIn}
+use Rattle.numbers.specs.Fields.{digitsIn, paddedIn}
 use Rattle.leaves.proofs.Steps.{at, done}
 use Rattle.numbers.proofs.Rows.{none, refused}
 use Rattle.numbers.proofs.padded_number.Statement.{statement}

@@ -15,7 +15,7 @@ use Rattle.rules.specs.Bytes.{between, every, part}
 use Rattle.rules.specs.Numbers.{isDigit, decimal, padded, paddedNumber, pointed, pointedNumber}
 use Rattle.laws.proofs.Bytes.{both, bounds-between}
 use Rattle.laws.proofs.Numbers.{decimal-from, decimal-below, padded-below}
-use Rattle.numbers.specs.Fields.{number, digitsIn, paddedIn, pointedIn}
+use Rattle.numbers.specs.Fields.{digitsIn, paddedIn, pointedIn}
 use Rattle.numbers.specs.declared.Number.{Number}
 use Rattle.numbers.proofs.Laws.{digits-good, digits-count, padded-good, padded-count}
 use Rattle.numbers.proofs.Rows.{none, some, refused, accepted}

@@ -12,7 +12,7 @@ use lib.ListN.{length, drop, length-drop}
 use lib.Seq.{take-all}
 use Rattle.rules.specs.declared.Frame.{Frame}
 use Rattle.stream_rules.specs.Heads.{good, head}
-use Rattle.stream_rules.specs.Rule.{Look, byLook, look}
+use Rattle.stream_rules.specs.Rule.{Look, byLook}
 use Rattle.seek_laws.proofs.Families.{facts}
 use Rattle.seek_laws.proofs.Starts.{NotGood}
 use Rattle.seek_laws.proofs.Walks.{Passed, nothing-passed, passes, first-good, none-left}

@@ -1,7 +1,7 @@
 -- `seek::seek` meets its contract. The loop's invariant: every start before `at` is bad, and `reach` is how far the bytes
 -- reach that settled those. The measure is what is left of the bytes.
 -- Assumes nothing.
-use Prim.Native.Nat.{ℕ, suc, max, _+_, _-_, _≤_, _<_}
+use Prim.Native.Nat.{ℕ, max, _+_, _-_, _≤_}
 use mathlib.Core.Path.{_≡_, refl, sym, ap, subst⁻¹, _∙_}
 use mathlib.Core.List.{List}
 use native.Mathlib.Numerals.{add-one}
@@ -11,8 +11,8 @@ use borrow.Author.Needs.{needs}
 use lib.ListN.{length, drop, length-drop}
 use lib.Seq.{take-all}
 use Rattle.rules.specs.declared.Frame.{Frame}
-use Rattle.stream_rules.specs.Heads.{Head, wait, bad, good, head}
-use Rattle.stream_rules.specs.Rule.{Look, byLook, look}
+use Rattle.stream_rules.specs.Heads.{wait, bad, good, head}
+use Rattle.stream_rules.specs.Rule.{Look, byLook}
 use Rattle.stream_rules.specs.Settled.{settled, reach}
 use Rattle.head_laws.proofs.Heads.{settling}
 use Rattle.seek_laws.proofs.Families.{facts}

@@ -1,7 +1,7 @@
 -- `spe::has_commas` meets its contract: with 67 bytes the data is its own fields joined exactly when commas stand at the
 -- twenty places that the widths give.
 -- Assumes nothing.
-use mathlib.Core.Path.{_≡_, sym, _∙_}
+use mathlib.Core.Path.{sym, _∙_}
 use mathlib.Core.List.{tail}
 use borrow.Author.Needs.{needs}
 use lib.Dec.{eqb}

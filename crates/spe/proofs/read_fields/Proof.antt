@@ -10,7 +10,6 @@ use borrow.Author.Needs.{needs}
 use lib.ListN.{length, getD}
 use Rattle.rules.specs.Bytes.{first, part}
 use Rattle.rules.specs.Status.{readable, statusOf}
-use Rattle.rules.specs.declared.Status.{Status}
 use Rattle.laws.proofs.Bytes.{tests}
 use Rattle.laws.proofs.Lists.{elements, part-elements}
 use Rattle.spe.specs.Report.{FieldsOf, FrontOf, MetersOf}

@@ -1,12 +1,11 @@
 -- `stamps::stamp_order` meets its contract: the wrapped difference is b minus a modulo 2^32, and the tests are the rule's.
 -- Assumes nothing.
-use Prim.Native.Nat.{ℕ, _+_, _-_, _%_, _^_, _≤_, _<_}
-use mathlib.Core.Path.{_≡_, sym, ap, _∙_}
+use Prim.Native.Nat.{ℕ, _-_, _^_, _≤_, _<_}
+use mathlib.Core.Path.{_≡_}
 use native.Mathlib.Omega.{arith}
 use borrow.Author.Needs.{needs}
 use borrow.Author.Tests.{eq-eqb, ne-eqb, lt-ltb, le-ltb}
 use Rattle.stream_rules.specs.Lister.{between-stamps, order}
-use Rattle.stream_rules.specs.declared.Order.{Order}
 use Rattle.stream_rules.specs.declared.Order.the-variants.{Earlier, Later, Equal, CannotSay}
 use Rattle.stamps.proofs.stamp_order.Statement.{statement}
 use Rattle.stamps.proofs.stamp_order.Tie as tie

@@ -5,7 +5,7 @@ use mathlib.Core.Path.{sym, ap, _∙_}
 use mathlib.Core.List.{List}
 use native.Mathlib.Omega.{arith}
 use borrow.Author.Needs.{needs}
-use lib.ListN.{length, take, length-take}
+use lib.ListN.{length, length-take}
 use Rattle.stream_rules.specs.Heads.{head, atClose}
 use Rattle.stream_rules.specs.Rule.{look}
 use Rattle.stream_rules.specs.Streams.{closedCall}

@@ -1,7 +1,6 @@
 -- `printing::print_calls` ends: each call takes at least one byte of the script.
 -- Assumes nothing.
 use Prim.Native.Nat.{_-_, _≤_}
-use native.Mathlib.Omega.{arith}
 use borrow.Author.Needs.{needs}
 use lib.ListN.{length}
 use Rattle.printing.proofs.replay.print_calls.Statement.{statement}

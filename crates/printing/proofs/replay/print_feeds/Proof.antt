@@ -1,10 +1,8 @@
 -- `printing::print_feeds` ends: with each frame that is handed out, fewer bytes are held and left to offer.
 -- Assumes nothing.
-use Prim.Native.Nat.{ℕ, _+_, _-_, _≤_}
-use mathlib.Core.Path.{_≡_}
-use mathlib.Core.List.{List}
+use Prim.Native.Nat.{_+_, _-_, _≤_}
 use native.Mathlib.Omega.{arith}
-use lib.ListN.{length, take, drop, length-take, length-drop}
+use lib.ListN.{length}
 use borrow.Author.Needs.{needs}
 use Rattle.seek_laws.proofs.Families.{Fewer, offers-rest}
 use Rattle.printing.proofs.replay.print_feeds.Statement.{statement}

@@ -1,7 +1,7 @@
 -- `stream::pieces::advance` meets its contract: where nothing is held, the bytes offered are searched; else the first piece is
 -- taken, and where that leaves no frame, the search goes on from what was kept.
 -- Assumes nothing.
-use Prim.Native.Nat.{ℕ, _+_, _-_, _≤_}
+use Prim.Native.Nat.{ℕ, _-_, _≤_}
 use mathlib.Core.Path.{_≡_, refl, sym, ap, _∙_}
 use mathlib.Core.List.{List, []}
 use native.Mathlib.Omega.{arith}
