@@ -22,7 +22,7 @@ use Rattle.seek_laws.proofs.Families.{facts}
 use Rattle.seek_laws.proofs.Starts.{look-at-good}
 
 -- a start of a front is a front of the start
-drop-take : (j p : ℕ) (bs : List ℕ) → drop j (take p bs) ≡ take (p - j) (drop j bs)
+pub drop-take : (j p : ℕ) (bs : List ℕ) → drop j (take p bs) ≡ take (p - j) (drop j bs)
 drop-take zero p bs = simp sub-zero
 drop-take (suc j) zero bs = simp zero-sub
 drop-take (suc j) (suc p) [] = sym (take-nil (suc p - suc j))

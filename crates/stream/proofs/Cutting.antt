@@ -1,13 +1,12 @@
 -- What a search of a buffer says of the call that held its first bytes and was offered the others: more is wanted, or a
 -- frame was ready with the byte that settled the last of the starts up to it.
 -- Assumes nothing.
-use Prim.Native.Nat.{ℕ, zero, suc, max, _+_, _-_, _≤_, _<_}
+use Prim.Native.Nat.{ℕ, suc, max, _+_, _-_, _≤_, _<_}
 use mathlib.Core.Path.{_≡_, refl, sym, ap, _∙_}
-use mathlib.Core.List.{List, [], _∷_, _++_}
-use native.Mathlib.Nat.{sub-zero, suc-sub-suc, le-of-suc-le-suc}
+use mathlib.Core.List.{List, _++_}
 use native.Mathlib.Omega.{arith}
 use lib.ListN.{length, take, drop, length-take, length-drop, take-append-drop}
-use lib.Seq.{take-all, take-nil, length-take-le}
+use lib.Seq.{take-all, length-take-le}
 use Rattle.rules.specs.Bytes.{part}
 use Rattle.stream_rules.specs.Heads.{longest, head}
 use Rattle.stream_rules.specs.Rule.{Look, ready, waiting, look, byLook, wants}
@@ -17,20 +16,13 @@ use Rattle.stream_laws.proofs.Looks.{FrameFirst, OpenFirst, look-ready, look-wa
 use Rattle.seek_laws.proofs.Families.{facts}
 use Rattle.stream_laws.proofs.Calls.{wanted-call}
 use Rattle.seek_laws.proofs.Calls.{piece-keeps}
-use Rattle.seek_laws.proofs.Jump.{Jump, jump, upTo}
+use Rattle.seek_laws.proofs.Jump.{Jump, jump, upTo, drop-take}
 use Rattle.seek.specs.Sought.{soughtIn}
 use Rattle.seek.specs.declared.Hit.{Hit}
 use Rattle.seek.specs.declared.Sought.the-variants.{Ready, Waiting}
 use Rattle.stream.specs.Turns.{filled, stepFrom, keptOf, callOn, turnedFrom, Cuts}
 use Rattle.stream.specs.declared.pieces.Cut.{Cut}
 use Rattle.stream.specs.declared.pieces.Step.the-variants.{Ready as StepReady, Waiting as StepWaiting}
-
--- a part, cut at its end first
-pub drop-take : (a p : ℕ) (l : List ℕ) → a ≤ p → drop a (take p l) ≡ take (p - a) (drop a l)
-drop-take zero p l h = ap (λ (n : ℕ). take n l) (sym (sub-zero p))
-drop-take (suc a) zero l h = absurd (omega arith)
-drop-take (suc a) (suc p) [] h = sym (take-nil (suc p - suc a))
-drop-take (suc a) (suc p) (x ∷ l) h = drop-take a p l (le-of-suc-le-suc h) ∙ ap (λ (n : ℕ). take n (drop a l)) (sym (suc-sub-suc p a))
 
 module _ (family : ℕ) (work : List ℕ) where
   -- what a search answers is what a look finds
@@ -106,7 +98,7 @@ module _ (family : ℕ) (work : List ℕ) (count t s : ℕ) (there : count ≤ l
       let there-is : length (take count work ++ drop count work) ≡ length work = ap length both in
       record {
         says = ap (λ (c : ℕ). StepReady (record { taken = t + (to - c); skipped = s + k; length = n; frame = f })) (sym size) ∙ ap (stepFrom t s) (sym (j .answer));
-        keeps = sym (drop-take (k + n) to work (j .whole)) ∙ ap (λ (l : List ℕ). drop (k + n) (take to l)) (sym both) ∙ ap keptOf (sym (j .answer));
+        keeps = sym (drop-take (k + n) to work) ∙ ap (λ (l : List ℕ). drop (k + n) (take to l)) (sym both) ∙ ap keptOf (sym (j .answer));
         order = j .whole;
         within = omega (arith, j .there, there-is);
         short = j .short (omega (arith, size));

@@ -20,7 +20,7 @@ use Rattle.stream.specs.Turns.{callOn, turnedFrom, turned}
 use Rattle.stream.specs.declared.pieces.Step.the-variants.{Ready, Waiting}
 use Rattle.stream.specs.declared.pieces.Turn.{Turn}
 use Rattle.stream.proofs.pieces.Step.{the-type}
-use Rattle.stream.proofs.Cutting.{drop-take}
+use Rattle.seek_laws.proofs.Jump.{drop-take}
 
 -- The call on a buffer is the call that held its first bytes and was offered the others.
 pub call-same : (family : ℕ) (held piece work : List ℕ) → work ≡ held ++ piece → callOn family work (length held) ≡ call (head family) held piece
@@ -43,7 +43,7 @@ end-of-piece held offered kept n k there few adds-up e =
     e
     ∙ ap (λ (j : ℕ). drop j (held ++ take n offered)) start
     ∙ drop-append-add held (take n offered) from
-    ∙ drop-take from n offered (omega arith)
+    ∙ drop-take from n offered
     ∙ ap (λ (j : ℕ). take j (drop from offered)) left
 
 module _ (family : ℕ) (held cs ds : List ℕ) where
