@@ -4,10 +4,14 @@
  *
  * Families: 1 SPE amplifier to host, 2 Alpha 9500, 3 host to SPE amplifier.
  *
- * A function that returns uint32_t returns 0, or one of the numbers below; it has then changed nothing
- * that was lent to it. A pointer and a length that follow each other are one lent slice: the pointer
- * has to be aligned and not null, also where the length is 0, and lent memory must not overlap. Apart
- * from that every number, every byte and every state of a reader is a legal argument. */
+ * A function that returns uint32_t returns 0 or, where it refuses, one of the numbers below, and has
+ * then changed nothing that was lent to it; amp_stamp_order alone refuses nothing and has numbers of its
+ * own. A pointer and a length that follow each other are one lent slice.
+ *
+ * What is asked of the caller is what C alone can know: every pointer is aligned and not null, also
+ * where its length is 0; it points to as much memory as its type or its length says; and what a function
+ * may write overlaps nothing else that is lent to it. Apart from that every number, every byte and every
+ * state of a reader is a legal argument. */
 #ifndef AMP_H
 #define AMP_H
 
@@ -23,7 +27,7 @@ enum {
     AMP_NO_FAMILY = 1,      /* the family is not 1, 2 or 3 */
     AMP_NO_CODE = 2,        /* a command or an acknowledgement cannot carry this code */
     AMP_NO_RECORD = 3,      /* a value does not fit its field, or there is no such kind */
-    AMP_NO_ROOM = 4,        /* the lent output, list or row is too short */
+    AMP_NO_ROOM = 4,        /* the lent output, list or row is shorter than the answer */
     AMP_CLOSED = 5,         /* bytes were offered to a closed reader */
     AMP_HOLDS_TOO_MUCH = 6, /* the reader's state claims more held bytes than its family can hold */
     AMP_TOO_LONG = 7,       /* the capture has more than 65,536 bytes */
@@ -31,7 +35,8 @@ enum {
 };
 
 /* A row of numbers: what was read, or what a call on a stream answered. The values of a frame stand
- * from AMP_VALUES on; what is behind them is unchanged. */
+ * from AMP_VALUES on; what is behind them is unchanged. A row needs AMP_VALUES places, and one more for
+ * each value. */
 enum {
     AMP_KIND,    /* one of the kinds below */
     AMP_CODE,    /* the code of an acknowledgement or a command, the number of a sentence, else 0 */
@@ -40,7 +45,7 @@ enum {
     AMP_SKIPPED, /* how many bytes were skipped before it since the last frame, modulo 2^32 */
     AMP_LENGTH,  /* how many bytes the frame has */
     AMP_VALUES,
-    AMP_ROW = 26 /* the places that every row has to have */
+    AMP_ROW = 26 /* the longest row, that of a status report: every row has room in so many places */
 };
 
 enum {
@@ -107,16 +112,16 @@ typedef struct amp_reader {
 uint32_t amp_fresh(amp_reader *reader, uint32_t family);
 
 /* Offers bytes to the reader, and lays the row of its answer: a frame, AMP_MORE or AMP_DONE. The call
- * stops at a frame and tells in AMP_TAKEN how many bytes it took; offer the others again. Refusal 4,
- * then 1, then 6, then 5. */
+ * stops at a frame and tells in AMP_TAKEN how many bytes it took; offer the others again. Refusal 1,
+ * then 6, then 5, then 4 for a row that is too short: then too nothing was taken. */
 uint32_t amp_feed(amp_reader *reader, const uint8_t *offered, size_t offered_len,
                   int64_t *row, size_t row_len);
 
 /* Closes the reader: calls that offer nothing then hand out what it still holds. Refusal 1, then 6. */
 uint32_t amp_close(amp_reader *reader);
 
-/* Reads one frame, the whole of the bytes, and lays its row; the numbers between its code and its
- * values are 0. Refusal 4, then 1, then 8. */
+/* Reads one frame, the whole of the bytes, and lays its row; AMP_TAKEN, AMP_START and AMP_SKIPPED are 0
+ * in it. Refusal 1, then 8, then 4. */
 uint32_t amp_read(uint32_t family, const uint8_t *bytes, size_t bytes_len,
                   int64_t *row, size_t row_len);
 
@@ -124,9 +129,9 @@ uint32_t amp_read(uint32_t family, const uint8_t *bytes, size_t bytes_len,
 uint32_t amp_list(uint32_t family, const uint8_t *capture, size_t capture_len,
                   uint32_t *starts, size_t starts_len, size_t *count);
 
-/* The size of the next frame from a place on, and its start; both are 0 where there is none, the place
- * is beyond the end, or amp_list would refuse the family or the length. With reports other than 0 only
- * a status report is one. */
+/* The size of the next frame from a place on, and its start. The size is 0, and start is left as it was,
+ * where there is none, the place is beyond the end, or amp_list would refuse the family or the length.
+ * With reports other than 0 only a status report is one. */
 size_t amp_next(uint32_t family, const uint8_t *capture, size_t capture_len,
                 size_t place, uint32_t reports, size_t *start);
 
@@ -139,7 +144,7 @@ uint32_t amp_write(uint32_t kind, uint32_t code, const int64_t *values, size_t v
 /* Writes the bytes that enable the Alpha. Refusal 4. */
 uint32_t amp_write_enable(uint8_t *out, size_t out_len, size_t *length);
 
-/* How stamp a stands to stamp b. */
+/* How stamp a stands to stamp b. No refusal: one of these four. */
 enum {
     AMP_EARLIER = 1,
     AMP_LATER = 2,

@@ -1,5 +1,6 @@
 //! The header for Rust: what a Rust program needs of libamp.a, name by name as c/amp.h has it, where
-//! each function and number is explained. A lent slice is a pointer and a length here too.
+//! each function and number is explained, and what is asked of a caller. A lent slice is a pointer and a
+//! length here too.
 #![allow(dead_code)]
 
 /// The numbers for no.
@@ -20,6 +21,7 @@ pub const AMP_START: usize = 3;
 pub const AMP_SKIPPED: usize = 4;
 pub const AMP_LENGTH: usize = 5;
 pub const AMP_VALUES: usize = 6;
+/// The longest row.
 pub const AMP_ROW: usize = 26;
 
 /// The kinds of a row. In a row they are i64, as every number there; amp_write takes a kind as u32.

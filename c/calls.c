@@ -102,6 +102,15 @@ static void layout(void)
 
 /* ---- amp_read ------------------------------------------------------------------------------- */
 
+static void does_not_read(const char *what, uint32_t family, const uint8_t *bytes, size_t n,
+                          size_t room, uint32_t number)
+{
+    clear_row();
+    check(amp_read(family, bytes, n, row, room) == number, what);
+    check(row_untouched(), what);
+}
+
+/* The row has just the room that it needs; with a place less it is refused. */
 static void reads(const char *what, uint32_t family, const uint8_t *bytes, size_t n,
                   int64_t kind, int64_t code, const int64_t *values, size_t many)
 {
@@ -109,17 +118,11 @@ static void reads(const char *what, uint32_t family, const uint8_t *bytes, size_
 
     head[AMP_KIND] = kind;
     head[AMP_CODE] = code;
+    head[AMP_LENGTH] = (int64_t)n;
+    does_not_read(what, family, bytes, n, AMP_VALUES + many - 1, AMP_NO_ROOM);
     clear_row();
-    check(amp_read(family, bytes, n, row, AMP_ROW) == 0, what);
+    check(amp_read(family, bytes, n, row, AMP_VALUES + many) == 0, what);
     check(row_is(head, values, many), what);
-}
-
-static void does_not_read(const char *what, uint32_t family, const uint8_t *bytes, size_t n,
-                          size_t room, uint32_t number)
-{
-    clear_row();
-    check(amp_read(family, bytes, n, row, room) == number, what);
-    check(row_untouched(), what);
 }
 
 static void reading(void)
@@ -139,8 +142,8 @@ static void reading(void)
     does_not_read("family 0", 0, SLICE(CASE_5), AMP_ROW, AMP_NO_FAMILY);
     does_not_read("family 4", 4, SLICE(CASE_5), AMP_ROW, AMP_NO_FAMILY);
     does_not_read("family 257", 257, SLICE(CASE_5), AMP_ROW, AMP_NO_FAMILY);
-    does_not_read("a short row before no family", 9, SLICE(CASE_6), AMP_ROW - 1, AMP_NO_ROOM);
-    does_not_read("a short row", 1, SLICE(CASE_5), AMP_ROW - 1, AMP_NO_ROOM);
+    does_not_read("no family before no row", 9, SLICE(CASE_5), 0, AMP_NO_FAMILY);
+    does_not_read("not good before no row", 1, SLICE(CASE_6), 0, AMP_NOT_GOOD);
     does_not_read("no row", 1, SLICE(CASE_5), 0, AMP_NO_ROOM);
 }
 
@@ -255,36 +258,33 @@ static void next_is(const char *what, uint32_t family, const uint8_t *bytes, siz
     check(found == start, what);
 }
 
+static void no_next(const char *what, uint32_t family, const uint8_t *bytes, size_t n,
+                    size_t place, uint32_t reports)
+{
+    next_is(what, family, bytes, n, place, reports, 0, 77);
+}
+
 static void next(void)
 {
     next_is("from 0", 1, SLICE(CASE_2), 0, 0, 6, 0);
     next_is("from 1", 1, SLICE(CASE_2), 1, 0, 6, 6);
     next_is("from 6", 1, SLICE(CASE_2), 6, 0, 6, 6);
-    next_is("from 7", 1, SLICE(CASE_2), 7, 0, 0, 0);
-    next_is("from the end", 1, SLICE(CASE_2), 12, 0, 0, 0);
-    next_is("from beyond the end", 1, SLICE(CASE_2), SIZE_MAX, 0, 0, 0);
+    no_next("from 7", 1, SLICE(CASE_2), 7, 0);
+    no_next("from the end", 1, SLICE(CASE_2), 12, 0);
+    no_next("from beyond the end", 1, SLICE(CASE_2), SIZE_MAX, 0);
     next_is("any frame", 1, SLICE(CASE_2 CASE_5), 0, 0, 6, 0);
     next_is("a report", 1, SLICE(CASE_2 CASE_5), 0, 1, 75, 12);
     next_is("a report, asked by another number", 1, SLICE(CASE_2 CASE_5), 0, 256, 75, 12);
-    next_is("no report", 1, SLICE(CASE_2), 0, 1, 0, 0);
-    next_is("a sentence is no report", 2, SLICE(CASE_7), 0, 1, 0, 0);
+    no_next("no report", 1, SLICE(CASE_2), 0, 1);
+    no_next("a sentence is no report", 2, SLICE(CASE_7), 0, 1);
     next_is("case 9", 2, SLICE(CASE_9), 0, 0, 32, 5);
-    next_is("no family", 0, SLICE(CASE_2), 0, 0, 0, 0);
+    no_next("no family", 0, SLICE(CASE_2), 0, 0);
     memcpy(large, CASE_2, 12);
     next_is("65,536 bytes", 1, large, 65536, 1, 0, 6, 6);
-    next_is("too long", 1, large, 65537, 1, 0, 0, 0);
+    no_next("too long", 1, large, 65537, 1, 0);
 }
 
 /* ---- Streams -------------------------------------------------------------------------------- */
-
-/* Feeds, and holds the first six numbers of the row to what is expected. */
-static void feeds(const char *what, amp_reader *reader, const uint8_t *bytes, size_t n,
-                  const int64_t *head, const int64_t *values, size_t many)
-{
-    clear_row();
-    check(amp_feed(reader, bytes, n, row, AMP_ROW) == 0, what);
-    check(row_is(head, values, many), what);
-}
 
 static void does_not_feed(const char *what, amp_reader *reader, const uint8_t *bytes, size_t n,
                           size_t room, uint32_t number)
@@ -294,6 +294,17 @@ static void does_not_feed(const char *what, amp_reader *reader, const uint8_t *b
     clear_row();
     check(amp_feed(reader, bytes, n, row, room) == number, what);
     check(row_untouched() && memcmp(&before, reader, sizeof before) == 0, what);
+}
+
+/* Feeds, and holds the row to what is expected. It has just the room that it needs; with a place less it
+ * is refused, and nothing is fed. */
+static void feeds(const char *what, amp_reader *reader, const uint8_t *bytes, size_t n,
+                  const int64_t *head, const int64_t *values, size_t many)
+{
+    does_not_feed(what, reader, bytes, n, AMP_VALUES + many - 1, AMP_NO_ROOM);
+    clear_row();
+    check(amp_feed(reader, bytes, n, row, AMP_VALUES + many) == 0, what);
+    check(row_is(head, values, many), what);
 }
 
 #define HEAD(kind, code, taken, start, skipped, length) \
@@ -340,6 +351,7 @@ static void drained(void)
     check(amp_close(&reader) == 0 && reader.closed == 1 && reader.count == 16, "close");
     check(amp_close(&reader) == 0 && reader.closed == 1 && reader.count == 16, "close twice");
     does_not_feed("closed", &reader, zeros, 1, AMP_ROW, AMP_CLOSED);
+    does_not_feed("closed before no row", &reader, zeros, 1, 0, AMP_CLOSED);
     feeds("drained", &reader, NOTHING, HEAD(AMP_ACK, 0x0D, 0, 4, 4, 6), NULL, 0);
     feeds("drained on", &reader, NOTHING, HEAD(AMP_ACK, 0x09, 0, 10, 0, 6), NULL, 0);
     feeds("done", &reader, NOTHING, HEAD(AMP_DONE, 0, 0, 0, 0, 0), NULL, 0);
@@ -379,6 +391,7 @@ static void holds_too_much(uint8_t family, uint8_t count)
     check(amp_close(&reader) == AMP_HOLDS_TOO_MUCH, "close, too much held");
     check(memcmp(&before, &reader, sizeof before) == 0, "close, too much held: state");
     does_not_feed("feed, too much held", &reader, zeros, 1, AMP_ROW, AMP_HOLDS_TOO_MUCH);
+    does_not_feed("too much held before no row", &reader, zeros, 1, 0, AMP_HOLDS_TOO_MUCH);
 }
 
 static void states_refused(void)
@@ -394,7 +407,7 @@ static void states_refused(void)
     check(amp_close(&reader) == AMP_NO_FAMILY, "close, no family before too much held");
     check(memcmp(&before, &reader, sizeof before) == 0, "close, no family: state");
     does_not_feed("no family before closed", &reader, zeros, 1, AMP_ROW, AMP_NO_FAMILY);
-    does_not_feed("a short row before no family", &reader, zeros, 1, AMP_ROW - 1, AMP_NO_ROOM);
+    does_not_feed("no family before no row", &reader, zeros, 1, 0, AMP_NO_FAMILY);
     memset(&reader, 7, sizeof reader);
     reader.family = 2;
     reader.count = 2;

@@ -55,6 +55,20 @@ fn streams(checks: &mut Checks) {
     let mut row = [-77i64; AMP_ROW];
     layout(checks, &reader);
     checks.check(unsafe { amp_fresh(&mut reader, 2) } == 0, "fresh");
+    let before = reader;
+    let number = unsafe {
+        amp_feed(
+            &mut reader,
+            CASE_7.as_ptr(),
+            CASE_7.len(),
+            row.as_mut_ptr(),
+            AMP_VALUES,
+        )
+    };
+    checks.check(
+        number == AMP_NO_ROOM && reader == before && row == [-77; AMP_ROW],
+        "no room",
+    );
     let number = unsafe {
         amp_feed(
             &mut reader,
@@ -86,7 +100,10 @@ fn frames(checks: &mut Checks) {
     let mut out = [0xEEu8; 64];
     let mut length = 0usize;
     let number = unsafe { amp_read(2, CASE_7.as_ptr(), CASE_7.len(), row.as_mut_ptr(), AMP_ROW) };
-    checks.check(number == 0 && row[..2] == [AMP_SENTENCE as i64, 5], "read");
+    checks.check(
+        number == 0 && row[..AMP_VALUES] == [AMP_SENTENCE as i64, 5, 0, 0, 0, 32],
+        "read",
+    );
     checks.check(
         row[AMP_VALUES..][..AMP_05_VALUES] == VALUES_7,
         "the read values",
@@ -125,6 +142,8 @@ fn captures(checks: &mut Checks) {
     );
     let size = unsafe { amp_next(1, bytes, n, 1, 0, &mut start) };
     checks.check(size == 6 && start == 6, "next");
+    let size = unsafe { amp_next(1, bytes, n, 7, 0, &mut start) };
+    checks.check(size == 0 && start == 6, "no next, and the start as it was");
     checks.check(
         unsafe { amp_stamp_order(u32::MAX, 0) } == AMP_EARLIER,
         "stamps",

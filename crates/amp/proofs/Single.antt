@@ -1,7 +1,7 @@
 -- Each promise of the boundary leaves one number and one content of the lent memory: two results that meet it are equal. Of
 -- an answer that is laid as a row it is `lays-single`. Assumes nothing.
 use Prim.Native.Nat.{ℕ}
-use mathlib.Core.Path.{_≡_}
+use mathlib.Core.Path.{_≡_, sym, _∙_}
 use mathlib.Core.List.{List}
 use lib.IntN.{ℤ}
 use Rattle.laws.proofs.Single.{one-answer}
@@ -19,7 +19,7 @@ pub feeds-single : (reader : Reader) (offered : List ℕ) (numbers : List ℤ) (
     → (a ≡ b) × (x ≡ y) × (l ≡ m)
 feeds-single reader offered numbers a b x y l m p q =
     let laid = lays-single _ _ numbers a b l m (p .lays) (q .lays) in
-    (laid .0, one-answer (p .leaves) (q .leaves), laid .1)
+    (laid .0, p .leaves ∙ rw (laid .0) (sym (q .leaves)), laid .1)
 
 pub closes-single : (reader : Reader) (a b : ℕ) (x y : Reader) → Closes reader a x → Closes reader b y → (a ≡ b) × (x ≡ y)
 closes-single reader a b x y p q = (one-answer (p .answers) (q .answers), one-answer (p .leaves) (q .leaves))
@@ -35,10 +35,12 @@ pub lists-single : (family : ℕ) (capture starts : List ℕ) (count a b : ℕ) 
 lists-single family capture starts count a b x y n m p q =
     (one-answer (p .answers) (q .answers), one-answer (p .content) (q .content), one-answer (p .counts) (q .counts))
 
-pub nexts-single : (family : ℕ) (capture : List ℕ) (place reports a b x y : ℕ)
-    → Nexts family capture place reports a x → Nexts family capture place reports b y
+pub nexts-single : (family : ℕ) (capture : List ℕ) (place reports was a b x y : ℕ)
+    → Nexts family capture place reports was a x → Nexts family capture place reports was b y
     → (a ≡ b) × (x ≡ y)
-nexts-single family capture place reports a b x y p q = (one-answer (p .sizes) (q .sizes), one-answer (p .starts) (q .starts))
+nexts-single family capture place reports was a b x y p q =
+    let e = one-answer (p .sizes) (q .sizes) in
+    (e, p .starts ∙ rw e (sym (q .starts)))
 
 pub order-single : (a b x y : ℕ) → x ≡ orderNumber (order a b) → y ≡ orderNumber (order a b) → x ≡ y
 order-single a b x y p q = one-answer p q

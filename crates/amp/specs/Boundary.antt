@@ -7,6 +7,7 @@ use mathlib.Core.Bool.{cond, not}
 use mathlib.Core.List.{List}
 use lib.Dec.{eqb}
 use lib.IntN.{ℤ}
+use lib.ListN.{length}
 use Rattle.rules.specs.Answers.{isFamily, readOne, said}
 use Rattle.stream_rules.specs.Streams.{fed, shut, fresh, saidToFeed, saidToTurn}
 use Rattle.stream_rules.specs.Lister.{listed, listLeft, saidToList}
@@ -16,26 +17,27 @@ use Rattle.stream_rules.specs.declared.Listed.the-variants.{Count, Refused}
 use Rattle.stream_rules.specs.declared.Order.{Order}
 use Rattle.stream_rules.specs.declared.Order.the-variants.{Earlier, Later, Equal, CannotSay}
 use Rattle.finds.specs.Finds.{nextIn}
-use Rattle.rows.specs.Rows.{rowFed, rowRead, refusalOf, hasRoom, Lays}
+use Rattle.rows.specs.Rows.{rowFed, rowRead, refusalOf, Lays}
 
 -- A fresh reader; where there is no such family, the reader is as it was.
 pub record Freshens (family : ℕ) (reader : Reader) (result : ℕ) (after : Reader) : Type 0 where
   pub answers : result ≡ refusalOf (saidToTurn (fresh family .outcome))
   pub leaves : after ≡ cond (isFamily family) (fresh family .reader) reader
 
--- A call that offers bytes. Refusal 4 comes first: without room for the longest row nothing is fed.
+-- A call that offers bytes. Where its number is not 0, for a refusal of the stream or because the row has no room, the reader
+-- is as it was: nothing is fed.
 pub record FeedsRow (reader : Reader) (offered : List ℕ) (numbers : List ℤ) (result : ℕ) (after : Reader) (left : List ℤ) : Type 0 where
   pub lays : Lays (saidToFeed (fed reader offered .answer)) (rowFed (fed reader offered .answer)) numbers result left
-  pub leaves : after ≡ cond (hasRoom numbers) (fed reader offered .reader) reader
+  pub leaves : after ≡ cond (eqb result 0) (fed reader offered .reader) reader
 
 -- Closing; the reader is as it was where it is refused.
 pub record Closes (reader : Reader) (result : ℕ) (after : Reader) : Type 0 where
   pub answers : result ≡ refusalOf (saidToTurn (shut reader .outcome))
   pub leaves : after ≡ shut reader .reader
 
--- One frame, as a row. Here too refusal 4 comes first.
+-- One frame, as a row; its length is that of the bytes.
 abbrev pub ReadsRow : ℕ → List ℕ → List ℤ → ℕ → List ℤ → Type 0
-ReadsRow family bytes numbers result left = Lays (said (readOne family bytes)) (rowRead (readOne family bytes)) numbers result left
+ReadsRow family bytes numbers result left = Lays (said (readOne family bytes)) (rowRead (length bytes) (readOne family bytes)) numbers result left
 
 -- The lister: how many starts it filled in stands in the lent count, which is as it was on a refusal.
 abbrev pub countOr : Listed → ℕ → ℕ
@@ -48,10 +50,10 @@ pub record ListsStarts (family : ℕ) (capture starts : List ℕ) (count result 
   pub counts : counted ≡ countOr (listed family capture starts) count
 
 -- The next frame from a place on, or the next status report where reports is not 0: its size, and its start in the lent
--- number. Both are 0 where there is none.
-pub record Nexts (family : ℕ) (capture : List ℕ) (place reports size start : ℕ) : Type 0 where
+-- number. Where there is none the size is 0, and the lent number is as it was.
+pub record Nexts (family : ℕ) (capture : List ℕ) (place reports was size start : ℕ) : Type 0 where
   pub sizes : size ≡ nextIn family capture place (not (eqb reports 0)) .size
-  pub starts : start ≡ nextIn family capture place (not (eqb reports 0)) .start
+  pub starts : start ≡ cond (eqb size 0) was (nextIn family capture place (not (eqb reports 0)) .start)
 
 -- 1 is earlier, 2 later, 3 equal, and 4 that it can't be said
 abbrev pub orderNumber : Order → ℕ

@@ -49,28 +49,32 @@ fn freshened(reader: Reader, family: u32) -> After
 {
     let made = stream::fresh_reader(family_byte(family));
     let outcome = made.outcome;
-    let number = refusal(outcome);
-    if number != 0 {
-        return After { reader, number };
+    let refused = refusal(outcome);
+    if refused != 0 {
+        return After {
+            reader,
+            number: refused,
+        };
     }
     let fresh = made.reader;
     After {
         reader: fresh,
-        number,
+        number: refused,
     }
 }
 
-// A call that offers bytes. Nothing is fed where its row would have no room.
+// A call that offers bytes. Where it is refused, or its row has no room, the reader is the one that was
+// passed.
 fn fed(reader: Reader, offered: &[u8], numbers: &mut [i64]) -> After
     ensures { λ r. ⌜ FeedsRow reader (now (offered .entry)) (now (numbers .entry)) (r .number) (r .reader) (now (numbers .exit)) ⌝ }
 {
-    if !rows::has_room(numbers) {
-        return After { reader, number: 4 };
-    }
     let called = stream::feed(reader, offered);
     let answer = called.answer;
-    let next = called.reader;
     let number = rows::lay_answer(answer, numbers);
+    if number != 0 {
+        return After { reader, number };
+    }
+    let next = called.reader;
     After {
         reader: next,
         number,
@@ -83,9 +87,9 @@ fn closed(reader: Reader) -> After
 {
     let turned = stream::close(reader);
     let outcome = turned.outcome;
-    let next = turned.reader;
+    let shut = turned.reader;
     After {
-        reader: next,
+        reader: shut,
         number: refusal(outcome),
     }
 }
@@ -129,7 +133,7 @@ pub extern "C" fn amp_read(family: u32, bytes: &[u8], numbers: &mut [i64]) -> u3
     ensures { λ r. ⌜ ReadsRow family (now (bytes .entry)) (now (numbers .entry)) r (now (numbers .exit)) ⌝ }
 {
     let reading = frames::read_frame(family_byte(family), bytes);
-    rows::lay_reading(reading, numbers)
+    rows::lay_reading(reading, bytes.len(), numbers)
 }
 
 // The starts of the frames in a capture, and how many there are.
@@ -151,7 +155,7 @@ pub extern "C" fn amp_list(
     }
 }
 
-// The next frame of a capture from a place on.
+// The next frame of a capture from a place on: its size, and its start where there is one.
 #[no_mangle]
 pub extern "C" fn amp_next(
     family: u32,
@@ -160,11 +164,14 @@ pub extern "C" fn amp_next(
     reports: u32,
     start: &mut usize,
 ) -> usize
-    ensures { λ r. ⌜ Nexts family (now (capture .entry)) place reports r (now (start .exit)) ⌝ }
+    ensures { λ r. ⌜ Nexts family (now (capture .entry)) place reports (now (start .entry)) r (now (start .exit)) ⌝ }
 {
     let span = finds::find(family_byte(family), capture, place, reports != 0);
-    *start = span.start;
-    span.size
+    let size = span.size;
+    if size != 0 {
+        *start = span.start;
+    }
+    size
 }
 
 // How stamp a stands to stamp b.

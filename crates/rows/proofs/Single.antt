@@ -1,7 +1,7 @@
 -- What is promised of an answer that is laid leaves one number and one content of the lent numbers: two results that meet it
 -- are equal. Assumes nothing.
 use Prim.Native.Nat.{ℕ}
-use mathlib.Core.Path.{_≡_}
+use mathlib.Core.Path.{_≡_, sym, _∙_}
 use mathlib.Core.List.{List}
 use lib.IntN.{ℤ}
 use Rattle.rules.specs.Answers.{Says}
@@ -10,4 +10,6 @@ use Rattle.rows.specs.Rows.{Lays}
 
 pub lays-single : (answer : Says) (r numbers : List ℤ) (a b : ℕ) (x y : List ℤ) → Lays answer r numbers a x → Lays answer r numbers b y
     → (a ≡ b) × (x ≡ y)
-lays-single answer r numbers a b x y p q = (one-answer (p .answers) (q .answers), one-answer (p .content) (q .content))
+lays-single answer r numbers a b x y p q =
+    let e = one-answer (p .answers) (q .answers) in
+    (e, p .content ∙ rw e (sym (q .content)))

@@ -2,9 +2,9 @@
 -- code, the bytes taken, the frame's start, the bytes skipped and its length, and behind these six the frame's values.
 use Prim.Native.Nat.{ℕ, _+_, _%_, _^_}
 use mathlib.Core.Path.{_≡_}
-use mathlib.Core.Bool.{Bool, cond}
+use mathlib.Core.Bool.{cond}
 use mathlib.Core.List.{List, [], _∷_, _++_}
-use lib.Dec.{leb}
+use lib.Dec.{eqb, leb}
 use lib.IntN.{ℤ, pos}
 use lib.ListN.{length, take, drop}
 use Rattle.rules.specs.Answers.{Says, no, yes, noRoom, values}
@@ -56,21 +56,15 @@ rowFed (More n) = rowWithout 5 n
 rowFed (Done n) = rowWithout 6 n
 rowFed (Refused n) = []
 
-abbrev pub rowRead : Reading → List ℤ
-rowRead (Good f) = row 0 0 0 0 f
-rowRead (NotGood n) = []
+-- of a frame that is read alone, its length is that of the bytes
+abbrev pub rowRead : ℕ → Reading → List ℤ
+rowRead size (Good f) = row 0 0 0 size f
+rowRead size (NotGood n) = []
 
 -- the number for no, and 0 for yes
 abbrev pub refusalOf : Says → ℕ
 refusalOf (no n) = n
 refusalOf (yes kind vs) = 0
-
--- The longest row: its first six numbers, and the 20 values of a status report.
-abbrev pub longestRow : ℕ
-longestRow = 26
-
-abbrev pub hasRoom : List ℤ → Bool
-hasRoom numbers = leb longestRow (length numbers)
 
 -- A row stands at the front of the numbers; those behind it are unchanged.
 unfoldable pub front : List ℤ → List ℤ → List ℤ
@@ -80,8 +74,25 @@ front r numbers = r ++ drop (length r) numbers
 unfoldable pub laidAt : ℕ → List ℤ → List ℤ → List ℤ
 laidAt place r numbers = take place numbers ++ r ++ drop (place + length r) numbers
 
--- An answer is laid: refusal 4 where there is no room for the longest row, then the answer's own. Its row stands at the front,
--- and on a refusal all numbers are unchanged, as its row is empty.
+-- The number that is given: refusal 4 where the row is longer than the lent numbers, else 0. An answer that is a refusal
+-- gives its own number, whatever is lent.
+abbrev pub rowNumber : List ℤ → List ℤ → ℕ
+rowNumber r numbers = cond (leb (length r) (length numbers)) 0 noRoom
+
+abbrev pub laidNumber : Says → List ℤ → List ℤ → ℕ
+laidNumber (no n) r numbers = n
+laidNumber (yes kind vs) r numbers = rowNumber r numbers
+
+-- Where that number is 0 the row stands at the front; else all numbers are unchanged.
+abbrev pub laidContent : List ℤ → List ℤ → ℕ → List ℤ
+laidContent r numbers result = cond (eqb result 0) (front r numbers) numbers
+
+-- A row is laid.
+pub record LaysRow (r numbers : List ℤ) (result : ℕ) (after : List ℤ) : Type 0 where
+  pub answers : result ≡ rowNumber r numbers
+  pub content : after ≡ laidContent r numbers result
+
+-- An answer is laid, by its row; a refusal has none.
 pub record Lays (answer : Says) (r numbers : List ℤ) (result : ℕ) (after : List ℤ) : Type 0 where
-  pub answers : result ≡ cond (hasRoom numbers) (refusalOf answer) noRoom
-  pub content : after ≡ cond (hasRoom numbers) (front r numbers) numbers
+  pub answers : result ≡ laidNumber answer r numbers
+  pub content : after ≡ laidContent r numbers result

@@ -16,14 +16,7 @@ ghost use Prim.Native.Nat.{_+_, _≤_};
 ghost use Rattle.rules.specs.Answers.{said, statusNumbers, numbers05, values};
 ghost use Rattle.rules.specs.Sentences.{numbers02, numbers03};
 ghost use Rattle.stream_rules.specs.Streams.{saidToFeed};
-ghost use Rattle.rows.specs.Rows.{frameKind, frameCode, whole, head, rowWithout, rowFed, rowRead, hasRoom, front, laidAt, Lays};
-
-// Whether the longest row has room.
-pub fn has_room(numbers: &[i64]) -> bool
-    ensures { λ r. ⌜ r ≡ hasRoom (now (numbers .entry)) ⌝ }
-{
-    26 <= numbers.len()
-}
+ghost use Rattle.rows.specs.Rows.{frameKind, frameCode, whole, head, rowWithout, rowFed, rowRead, front, laidAt, LaysRow, Lays};
 
 // The numbers from a place on.
 fn put_numbers(numbers: &mut [i64], at: usize, what: &[u32])
@@ -106,7 +99,7 @@ fn put_status(numbers: &mut [i64], s: Status)
 
 // The values of sentence 02.
 fn put_02(numbers: &mut [i64], r: Sentence02)
-    requires { ⌜ 26 ≤ length (now numbers) ⌝ }
+    requires { ⌜ 19 ≤ length (now numbers) ⌝ }
     ensures { λ _. ⌜ now (numbers .exit) ≡ laidAt 6 (map pos (numbers02 r)) (now (numbers .entry)) ⌝ }
 {
     let what = [
@@ -129,7 +122,7 @@ fn put_02(numbers: &mut [i64], r: Sentence02)
 
 // The values of sentence 03; the last of them has a sign.
 fn put_03(numbers: &mut [i64], r: Sentence03)
-    requires { ⌜ 26 ≤ length (now numbers) ⌝ }
+    requires { ⌜ 15 ≤ length (now numbers) ⌝ }
     ensures { λ _. ⌜ now (numbers .exit) ≡ laidAt 6 (map pos (numbers03 r) ++ r .temp ∷ []) (now (numbers .entry)) ⌝ }
 {
     let what = [
@@ -148,7 +141,7 @@ fn put_03(numbers: &mut [i64], r: Sentence03)
 
 // The values of sentence 05.
 fn put_05(numbers: &mut [i64], r: Sentence05)
-    requires { ⌜ 26 ≤ length (now numbers) ⌝ }
+    requires { ⌜ 17 ≤ length (now numbers) ⌝ }
     ensures { λ _. ⌜ now (numbers .exit) ≡ laidAt 6 (map pos (numbers05 r)) (now (numbers .entry)) ⌝ }
 {
     let what = [
@@ -169,7 +162,7 @@ fn put_05(numbers: &mut [i64], r: Sentence05)
 
 // The frame's values, behind the six numbers in front of them.
 fn put_values(numbers: &mut [i64], frame: Frame)
-    requires { ⌜ 26 ≤ length (now numbers) ⌝ }
+    requires { ⌜ 6 + length (values frame) ≤ length (now numbers) ⌝ }
     ensures { λ _. ⌜ now (numbers .exit) ≡ laidAt 6 (values frame) (now (numbers .entry)) ⌝ }
 {
     match frame {
@@ -193,7 +186,7 @@ fn put_head(
     skipped: u32,
     size: usize,
 )
-    requires { ⌜ 26 ≤ length (now numbers) ⌝ }
+    requires { ⌜ 6 ≤ length (now numbers) ⌝ }
     ensures { λ _. ⌜ now (numbers .exit) ≡ laidAt 0 (head kind code taken start skipped size) (now (numbers .entry)) ⌝ }
 {
     let what = [kind, code, 0, start, skipped, 0];
@@ -202,12 +195,29 @@ fn put_head(
     numbers[5] = count(size);
 }
 
-// The row of a frame that is handed out.
-fn put_ready(numbers: &mut [i64], ready: Ready)
-    requires { ⌜ 26 ≤ length (now numbers) ⌝ }
-    ensures { λ _. ⌜ now (numbers .exit) ≡ front (rowFed (Answer.Ready ready)) (now (numbers .entry)) ⌝ }
+// How long a frame's row is: its values behind the six numbers.
+fn row_length(frame: Frame) -> usize
+    ensures { λ r. ⌜ r ≡ 6 + length (values frame) ⌝ }
+{
+    match frame {
+        Frame::Ack(_) => 6,
+        Frame::Status(_) => 26,
+        Frame::Command(_) => 6,
+        Frame::Apa02(_) => 19,
+        Frame::Apa03(_) => 15,
+        Frame::Apa05(_) => 17,
+        Frame::Other(_) => 6,
+    }
+}
+
+// The row of a frame that is handed out. Refusal 4 where it has no room.
+fn lay_ready(ready: Ready, numbers: &mut [i64]) -> u32
+    ensures { λ r. ⌜ LaysRow (rowFed (Answer.Ready ready)) (now (numbers .entry)) r (now (numbers .exit)) ⌝ }
 {
     let frame = ready.frame;
+    if numbers.len() < row_length(frame) {
+        return 4;
+    }
     put_head(
         numbers,
         kind(frame),
@@ -218,50 +228,46 @@ fn put_ready(numbers: &mut [i64], ready: Ready)
         ready.length,
     );
     put_values(numbers, frame);
+    0
 }
 
-// The row without a frame.
-fn put_taken(numbers: &mut [i64], kind: u32, taken: usize)
-    requires { ⌜ 26 ≤ length (now numbers) ⌝ }
-    ensures { λ _. ⌜ now (numbers .exit) ≡ front (rowWithout kind taken) (now (numbers .entry)) ⌝ }
+// The row without a frame, with the same refusal.
+fn lay_taken(kind: u32, taken: usize, numbers: &mut [i64]) -> u32
+    ensures { λ r. ⌜ LaysRow (rowWithout kind taken) (now (numbers .entry)) r (now (numbers .exit)) ⌝ }
 {
+    if numbers.len() < 6 {
+        return 4;
+    }
     put_head(numbers, kind, 0, taken, 0, 0, 0);
+    0
 }
 
 // What a call on a stream answered.
 pub fn lay_answer(answer: Answer, numbers: &mut [i64]) -> u32
     ensures { λ r. ⌜ Lays (saidToFeed answer) (rowFed answer) (now (numbers .entry)) r (now (numbers .exit)) ⌝ }
 {
-    if !has_room(numbers) {
-        return 4;
-    }
     match answer {
-        Answer::Ready(ready) => put_ready(numbers, ready),
-        Answer::More(taken) => put_taken(numbers, 5, taken),
-        Answer::Done(taken) => put_taken(numbers, 6, taken),
-        Answer::Refused(n) => return n as u32,
+        Answer::Ready(ready) => lay_ready(ready, numbers),
+        Answer::More(taken) => lay_taken(5, taken, numbers),
+        Answer::Done(taken) => lay_taken(6, taken, numbers),
+        Answer::Refused(n) => n as u32,
     }
-    0
 }
 
-// What a reader of one frame answered.
-pub fn lay_reading(reading: Reading, numbers: &mut [i64]) -> u32
-    ensures { λ r. ⌜ Lays (said reading) (rowRead reading) (now (numbers .entry)) r (now (numbers .exit)) ⌝ }
+// What a reader of one frame answered, which has that size.
+pub fn lay_reading(reading: Reading, size: usize, numbers: &mut [i64]) -> u32
+    ensures { λ r. ⌜ Lays (said reading) (rowRead size reading) (now (numbers .entry)) r (now (numbers .exit)) ⌝ }
 {
-    if !has_room(numbers) {
-        return 4;
-    }
     match reading {
         Reading::Good(frame) => {
             let ready = Ready {
                 taken: 0,
                 start: 0,
                 skipped: 0,
-                length: 0,
+                length: size,
                 frame,
             };
-            put_ready(numbers, ready);
-            0
+            lay_ready(ready, numbers)
         }
         Reading::Refused(n) => n as u32,
     }

@@ -1,6 +1,8 @@
--- `amp::amp_next` meets its contract: what is found for the byte is what is found for the family.
+-- `amp::amp_next` meets its contract: what is found for the byte is what is found for the family, and a size other than 0 is
+-- that of a frame.
 -- Assumes nothing.
-use mathlib.Core.Path.{ap, _∙_}
+use mathlib.Core.Path.{_≡_, ap, _∙_}
+use borrow.Author.Tests.{eq-eqb, ne-eqb}
 use Rattle.finds.specs.declared.Span.{Span}
 use Rattle.amp.proofs.Families.{next-byte}
 use borrow.Author.Needs.{needs}
@@ -15,10 +17,17 @@ find-requires c κs = search needs
 
 returns : tie.Need-returns
 returns c =
-    let found = c .find .ensures ∙ next-byte _ _ (c .before .family-byte .ensures) _ _ _ in record {
+    let found = c .before .find .ensures ∙ next-byte _ _ (c .before .before .family-byte .ensures) _ _ _ in record {
       sizes = ap (λ (s : Span). s .size) found;
-      starts = ap (λ (s : Span). s .start) found;
+      starts = rw (ne-eqb _ _ (c .if1 .taken)) (ap (λ (s : Span). s .start) found);
+    }
+
+returns-2 : tie.Need-returns-2
+returns-2 c =
+    let found = c .before .find .ensures ∙ next-byte _ _ (c .before .before .family-byte .ensures) _ _ _ in record {
+      sizes = ap (λ (s : Span). s .size) found;
+      starts = rw (eq-eqb _ _ (c .if1 .left));
     }
 
 pub amp-next-spec : {M : Type 1} → statement M
-amp-next-spec = tie.close (tie.spec family-byte-requires find-requires returns)
+amp-next-spec = tie.close (tie.spec family-byte-requires find-requires returns returns-2)

@@ -1,32 +1,15 @@
--- `rows::lay_reading` meets its contract: its test is refusal 4, and each arm lays the row of its reading.
+-- `rows::lay_reading` meets its contract: each arm lays the row of its reading.
 -- Assumes nothing.
-use mathlib.Core.Path.{_≡_, sym, _∙_}
-use mathlib.Core.Bool.{true}
-use borrow.Author.Tests.{not-true, not-false, leb-true}
-use denote.Ref.{now}
-use Rattle.rows.specs.Rows.{hasRoom}
-use Rattle.rows.proofs.Laying.{has-no-room, lays, lays-none}
+use Rattle.rows.proofs.Laying.{lays, lays-none}
 use borrow.Author.Needs.{needs}
 use Rattle.rows.proofs.lay_reading.Statement.{statement}
 use Rattle.rows.proofs.lay_reading.Tie as tie
 
-room : (c : tie.Else1) → hasRoom (now (c .before .before .before .args .numbers)) ≡ true
-room c = sym (c .before .has-room .ensures) ∙ not-false _ (c .if1 .left)
-
-has-room-requires : tie.Need-has-room-requires
-has-room-requires c κs = search needs
-
-same-length : tie.Need-same-length
-same-length c = search needs
-
-returns : tie.Need-returns
-returns c = has-no-room (sym (c .before .has-room .ensures) ∙ not-true _ (c .if1 .taken))
-
 enum-known-reading : tie.Need-enum-known-reading
 enum-known-reading c = search needs
 
-put-ready-requires : tie.Need-put-ready-requires
-put-ready-requires c κs = leb-true _ _ (room (c .before .before .before .before))
+lay-ready-requires : tie.Need-lay-ready-requires
+lay-ready-requires c κs = search needs
 
 enum-known-reading-2 : tie.Need-enum-known-reading-2
 enum-known-reading-2 c = search needs
@@ -34,30 +17,14 @@ enum-known-reading-2 c = search needs
 cast-result : tie.Need-cast-result
 cast-result c = search needs
 
-same-length-2 : tie.Need-same-length-2
-same-length-2 c = search needs
+same-length : tie.Need-same-length
+same-length c = search needs
+
+returns : tie.Need-returns
+returns c = rw (c .before .before .before .before .reading .given .1) (lays (c .before .lay-ready .ensures))
 
 returns-2 : tie.Need-returns-2
-returns-2 c = rw (c .before .before .before .before .reading .given .1) (lays (room (c .before .before .before .before .before .before)) (c .before .put-ready .ensures))
-
-same-length-3 : tie.Need-same-length-3
-same-length-3 c = search needs
-
-returns-3 : tie.Need-returns-3
-returns-3 c = rw (c .before .reading2 .given .1) (lays-none _ (room (c .before .before .before)))
+returns-2 c = rw (c .before .reading2 .given .1) (lays-none _)
 
 pub lay-reading-spec : {M : Type 1} → statement M
-lay-reading-spec =
-    tie.close
-    (tie.spec
-    has-room-requires
-    same-length
-    returns
-    enum-known-reading
-    put-ready-requires
-    enum-known-reading-2
-    cast-result
-    same-length-2
-    returns-2
-    same-length-3
-    returns-3)
+lay-reading-spec = tie.close (tie.spec enum-known-reading lay-ready-requires enum-known-reading-2 cast-result same-length returns returns-2)

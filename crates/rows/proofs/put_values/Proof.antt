@@ -2,6 +2,7 @@
 -- Assumes nothing.
 use mathlib.Core.Path.{sym, _∙_}
 use denote.Ref.{now}
+use Rattle.rules.specs.Sentences.{numbers02, numbers03}
 use Rattle.rows.proofs.Laid.{none-laid}
 use borrow.Author.Needs.{needs}
 use Rattle.rows.proofs.put_values.Statement.{statement}
@@ -11,25 +12,27 @@ enum-known-frame : tie.Need-enum-known-frame
 enum-known-frame c = search needs
 
 put-status-requires : tie.Need-put-status-requires
-put-status-requires c κs = search needs
+put-status-requires c κs = rw (c .before .before .frame .given .1) at (c .before .before .before .before .pre)
 
 enum-known-frame-2 : tie.Need-enum-known-frame-2
 enum-known-frame-2 c = search needs
 
 put-02-requires : tie.Need-put-02-requires
-put-02-requires c κs = search needs
+unfolding numbers02
+put-02-requires c κs = rw (c .before .before .frame2 .given .1) at (c .before .before .before .before .pre)
 
 enum-known-frame-3 : tie.Need-enum-known-frame-3
 enum-known-frame-3 c = search needs
 
 put-03-requires : tie.Need-put-03-requires
-put-03-requires c κs = search needs
+unfolding numbers03
+put-03-requires c κs = rw (c .before .before .frame3 .given .1) at (c .before .before .before .before .pre)
 
 enum-known-frame-4 : tie.Need-enum-known-frame-4
 enum-known-frame-4 c = search needs
 
 put-05-requires : tie.Need-put-05-requires
-put-05-requires c κs = search needs
+put-05-requires c κs = rw (c .before .before .frame4 .given .1) at (c .before .before .before .before .pre)
 
 enum-told : tie.Need-enum-told
 enum-told c = search needs
