@@ -1,10 +1,24 @@
--- Where the family is none of the three, a reader of one frame refuses with 1. Assumes nothing.
+-- What a reader of one frame gives by the family: what is read of that family, or refusal 1 where it is none of the three.
+-- Assumes nothing.
 use Prim.Native.Nat.{ℕ}
-use mathlib.Core.Path.{_≡_}
+use mathlib.Core.Path.{_≡_, refl}
 use mathlib.Core.List.{List}
 use borrow.Author.Tests.{ne-eqb}
-use Rattle.rules.specs.Answers.{readOne}
+use Rattle.rules.specs.Answers.{readOne, readFamily1, readFamily2, readFamily3}
 use Rattle.rules.specs.declared.Reading.the-variants.{Refused}
+
+module _ (bs : List ℕ) where
+  pub family1 : readFamily1 bs ≡ readOne 1 bs
+  unfolding readOne
+  family1 = refl
+
+  pub family2 : readFamily2 bs ≡ readOne 2 bs
+  unfolding readOne
+  family2 = refl
+
+  pub family3 : readFamily3 bs ≡ readOne 3 bs
+  unfolding readOne
+  family3 = refl
 
 pub no-family : (family : ℕ) (bs : List ℕ) → (family ≡ 1 → ⊥) → (family ≡ 2 → ⊥) → (family ≡ 3 → ⊥) → Refused 1 ≡ readOne family bs
 unfolding readOne

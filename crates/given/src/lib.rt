@@ -1,7 +1,7 @@
 // The writers for a caller that gives plain numbers: a frame by its kind, its code and a row of
 // values, and a place for the length. The answer is 0, or the number for no.
+mod fits;
 mod records;
-mod values;
 
 use records::from02;
 use records::from03;

@@ -1,12 +1,12 @@
 // Rows of values as records: whether a row fits the fields of a record, and the record.
-use crate::values::BYTE;
-use crate::values::WORD;
-use crate::values::byte_at;
-use crate::values::fit;
-use crate::values::fits_signed;
-use crate::values::temperature_at;
-use crate::values::value_at;
-use crate::values::word_at;
+use crate::fits::BYTE;
+use crate::fits::WORD;
+use crate::fits::byte_at;
+use crate::fits::fit;
+use crate::fits::fits_signed;
+use crate::fits::temperature_at;
+use crate::fits::value_at;
+use crate::fits::word_at;
 use rules::Sentence02;
 use rules::Sentence03;
 use rules::Sentence05;

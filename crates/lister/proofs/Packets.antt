@@ -44,10 +44,10 @@ a-reply s = by (isAck s) (isStatus s)
     by false false = refl
 
 command-is : (s : List ℕ) → isGood (readOne 3 s) ≡ isCommand s
-command-is s = sym (a-command s ∙ ap isGood (family3 3 s (λ e. omega (arith, e)) (λ e. omega (arith, e)) refl))
+command-is s = sym (a-command s ∙ ap isGood (family3 s))
 
 reply-is : (s : List ℕ) → isGood (readOne 1 s) ≡ (isAck s || isStatus s)
-reply-is s = sym (a-reply s ∙ ap isGood (family1 1 s refl))
+reply-is s = sym (a-reply s ∙ ap isGood (family1 s))
 
 -- by its length
 ack-is : (s : List ℕ) → length s ≡ 6 → isGood (readOne 1 s) ≡ isAck s

@@ -30,7 +30,7 @@ module _ (c : tie.After-is-sentence) where
 
   tested : isGood (readOne 2 (take (start .args .n + 6) (start .args .s .now))) ≡ c .is-sentence .result
   tested =
-      sym (c .is-sentence .ensures ∙ ap isGood (family2 2 _ (λ e. omega (arith, e)) refl) ∙ ap (λ (l : List ℕ). isGood (readOne 2 l)) (c .before .text .ensures .content))
+      sym (c .is-sentence .ensures ∙ ap isGood (family2 _) ∙ ap (λ (l : List ℕ). isGood (readOne 2 l)) (c .before .text .ensures .content))
 
 returns : tie.Need-returns
 returns c =

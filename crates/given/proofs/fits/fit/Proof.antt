@@ -1,4 +1,4 @@
--- `given::values::fit` meets its contract. The loop's invariant: all values fit exactly when those from i on do. The
+-- `given::fits::fit` meets its contract. The loop's invariant: all values fit exactly when those from i on do. The
 -- measure is what is left of them. Assumes nothing.
 use Prim.Native.Nat.{ℕ, _+_, _-_, _≤_, _<_}
 use mathlib.Core.Path.{_≡_, refl, sym, _∙_}
@@ -14,8 +14,8 @@ use lib.Seq.{drop-cons}
 use Rattle.rules.specs.Bytes.{every}
 use Rattle.given.specs.Given.{upTo, valueAt}
 use Rattle.given.proofs.Values.{as-read}
-use Rattle.given.proofs.values.fit.Statement.{statement}
-use Rattle.given.proofs.values.fit.Tie as tie
+use Rattle.given.proofs.fits.fit.Statement.{statement}
+use Rattle.given.proofs.fits.fit.Tie as tie
 
 module _ (test : ℤ → Bool) (vs : List ℤ) (i : ℕ) (h : i < length vs) where
   passes : test (valueAt vs i) ≡ true → every test (drop i vs) ≡ every test (drop (i + 1) vs)

@@ -1,4 +1,4 @@
--- `given::values::temperature_at` meets its contract: a value that passes the test keeps its number in 32 bits.
+-- `given::fits::temperature_at` meets its contract: a value that passes the test keeps its number in 32 bits.
 -- Assumes nothing.
 use mathlib.Core.Path.{_≡_, sym, _∙_}
 use mathlib.Core.Bool.{true}
@@ -8,8 +8,8 @@ use mir.Val.{SFits}
 use mir.ValLaws.{toZ-ofZ}
 use Rattle.given.specs.Given.{aTemperature}
 use Rattle.given.proofs.Values.{as-read, signed-fits}
-use Rattle.given.proofs.values.temperature_at.Statement.{statement}
-use Rattle.given.proofs.values.temperature_at.Tie as tie
+use Rattle.given.proofs.fits.temperature_at.Statement.{statement}
+use Rattle.given.proofs.fits.temperature_at.Tie as tie
 
 value-at-requires : tie.Need-value-at-requires
 value-at-requires c κs = search needs

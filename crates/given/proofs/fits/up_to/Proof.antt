@@ -1,12 +1,12 @@
--- `given::values::up_to` meets its contract: the signed readings that the code compares are the value and the limit.
+-- `given::fits::up_to` meets its contract: the signed readings that the code compares are the value and the limit.
 -- Assumes nothing.
 use native.Mathlib.Omega.{arith}
 use borrow.Author.Needs.{needs}
 use mir.Syntax.{w64}
 use mir.ValLaws.{toZ-ofZ, toZ-pos}
 use Rattle.given.proofs.Values.{between-zero}
-use Rattle.given.proofs.values.up_to.Statement.{statement}
-use Rattle.given.proofs.values.up_to.Tie as tie
+use Rattle.given.proofs.fits.up_to.Statement.{statement}
+use Rattle.given.proofs.fits.up_to.Tie as tie
 
 cast-result : tie.Need-cast-result
 cast-result c = search needs

@@ -1,11 +1,11 @@
--- `given::values::word_at` meets its contract: its calls are those of the definition.
+-- `given::fits::word_at` meets its contract: its calls are those of the definition.
 -- Assumes nothing.
 use mathlib.Core.Path.{ap, _∙_}
 use borrow.Author.Needs.{needs}
 use Rattle.given.specs.Given.{wordOf}
 use Rattle.given.proofs.Values.{as-read}
-use Rattle.given.proofs.values.word_at.Statement.{statement}
-use Rattle.given.proofs.values.word_at.Tie as tie
+use Rattle.given.proofs.fits.word_at.Statement.{statement}
+use Rattle.given.proofs.fits.word_at.Tie as tie
 
 value-at-requires : tie.Need-value-at-requires
 value-at-requires c κs = search needs

@@ -1,10 +1,10 @@
--- `given::values::fits_signed` meets its contract: the signed reading that the code compares is the value.
+-- `given::fits::fits_signed` meets its contract: the signed reading that the code compares is the value.
 -- Assumes nothing.
 use mir.Syntax.{w64}
 use mir.ValLaws.{toZ-ofZ}
 use Rattle.given.proofs.Values.{between-signs}
-use Rattle.given.proofs.values.fits_signed.Statement.{statement}
-use Rattle.given.proofs.values.fits_signed.Tie as tie
+use Rattle.given.proofs.fits.fits_signed.Statement.{statement}
+use Rattle.given.proofs.fits.fits_signed.Tie as tie
 
 returns : tie.Need-returns
 returns c = rw (toZ-ofZ w64 (c .args .v) (c .fits .v)) (between-signs (c .args .v))

@@ -1,4 +1,4 @@
--- `given::values::number_up_to` meets its contract: a value that passes the test is no larger than the limit.
+-- `given::fits::number_up_to` meets its contract: a value that passes the test is no larger than the limit.
 -- Assumes nothing.
 use mathlib.Core.Path.{_≡_, sym, _∙_}
 use mathlib.Core.Bool.{true}
@@ -8,8 +8,8 @@ use mir.Syntax.{w64}
 use mir.ValLaws.{toZ-ofZ}
 use Rattle.given.specs.Given.{upTo}
 use Rattle.given.proofs.Values.{as-read, not-negative, at-most}
-use Rattle.given.proofs.values.number_up_to.Statement.{statement}
-use Rattle.given.proofs.values.number_up_to.Tie as tie
+use Rattle.given.proofs.fits.number_up_to.Statement.{statement}
+use Rattle.given.proofs.fits.number_up_to.Tie as tie
 
 up-to-requires : tie.Need-up-to-requires
 up-to-requires c κs = search needs

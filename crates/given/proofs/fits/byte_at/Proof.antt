@@ -1,12 +1,12 @@
--- `given::values::byte_at` meets its contract: a number up to 255 is a byte.
+-- `given::fits::byte_at` meets its contract: a number up to 255 is a byte.
 -- Assumes nothing.
 use mathlib.Core.Path.{ap, _∙_}
 use native.Mathlib.Omega.{arith}
 use borrow.Author.Needs.{needs}
 use Rattle.given.specs.Given.{byteOf, valueAt}
 use Rattle.given.proofs.Values.{as-read, number-small}
-use Rattle.given.proofs.values.byte_at.Statement.{statement}
-use Rattle.given.proofs.values.byte_at.Tie as tie
+use Rattle.given.proofs.fits.byte_at.Statement.{statement}
+use Rattle.given.proofs.fits.byte_at.Tie as tie
 
 value-at-requires : tie.Need-value-at-requires
 value-at-requires c κs = search needs

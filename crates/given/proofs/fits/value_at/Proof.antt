@@ -1,11 +1,11 @@
--- `given::values::value_at` meets its contract: past the end of the row there is no value.
+-- `given::fits::value_at` meets its contract: past the end of the row there is no value.
 -- Assumes nothing.
 use mathlib.Core.Path.{sym}
 use borrow.Author.Needs.{needs}
 use lib.IntN.{pos}
 use lib.ListN.{List·getD-eq-default}
-use Rattle.given.proofs.values.value_at.Statement.{statement}
-use Rattle.given.proofs.values.value_at.Tie as tie
+use Rattle.given.proofs.fits.value_at.Statement.{statement}
+use Rattle.given.proofs.fits.value_at.Tie as tie
 
 mul-result : tie.Need-mul-result
 mul-result c = search needs
