@@ -2,10 +2,11 @@
 // start is examined once.
 use heads::Seen;
 use heads::examine;
+use heads::mark_of;
 use rules::Frame;
 ghost use mathlib.Core.Path.{_≡_};
 ghost use Prim.Native.Nat.{max};
-ghost use Rattle.seek.specs.Sought.{soughtIn, firstFrom};
+ghost use Rattle.seek.specs.Sought.{firstOf, soughtIn, firstFrom};
 
 // A good frame whose earlier starts are all bad: its place, its length, how far the bytes reach that
 // settled those, and what it says.
@@ -34,13 +35,30 @@ fn further(a: usize, b: usize) -> usize
     if a < b { b } else { a }
 }
 
+// The byte that every frame of a family starts with.
+fn first_of(family: u8) -> u8
+    ensures { λ r. ⌜ r ≡ firstOf family ⌝ }
+{
+    if family == 2 {
+        return b'$';
+    }
+    mark_of(family)
+}
+
 // The first start that is not bad.
 pub fn seek(family: u8, s: &[u8]) -> Sought
     ensures { λ r. ⌜ r ≡ soughtIn family (now (s .entry)) ⌝ }
 {
+    let first = first_of(family);
     let mut at = 0;
     let mut reach = 0;
     while at < s.len() {
+        // most starts are bad by their first byte
+        if s[at] != first {
+            reach = further(reach, at + 1);
+            at += 1;
+            continue;
+        }
         match examine(family, &s[at..]) {
             Seen::Good(n, f) => {
                 return Sought::Ready(Hit {
@@ -64,8 +82,13 @@ pub fn seek(family: u8, s: &[u8]) -> Sought
 pub fn first_good(family: u8, s: &[u8], from: usize) -> First
     ensures { λ r. ⌜ r ≡ firstFrom family (now (s .entry)) from ⌝ }
 {
+    let first = first_of(family);
     let mut at = from;
     while at < s.len() {
+        if s[at] != first {
+            at += 1;
+            continue;
+        }
         if let Seen::Good(n, f) = examine(family, &s[at..]) {
             return First::At(at, n, f);
         }

@@ -11,7 +11,7 @@ use types.Run.{OneOf, miss}
 use lib.ListN.{length, drop, length-drop}
 use lib.Seq.{take-all}
 use Rattle.rules.specs.declared.Frame.{Frame}
-use Rattle.stream_rules.specs.Heads.{good, head}
+use Rattle.stream_rules.specs.Heads.{Head, bad, good, head}
 use Rattle.stream_rules.specs.Rule.{Look, byLook}
 use Rattle.seek_laws.proofs.Families.{facts}
 use Rattle.seek_laws.proofs.Starts.{NotGood}
@@ -22,6 +22,7 @@ use Rattle.heads.specs.declared.Seen as SeenType
 use Rattle.heads.specs.declared.Seen.the-variants.{Good}
 use Rattle.heads.proofs.Starts.{seen-good, good-seen}
 use Rattle.seek.specs.Sought.{firstFrom}
+use Rattle.seek.proofs.Firsts.{other-first}
 use Rattle.seek.specs.declared.First.{First}
 use Rattle.seek.specs.declared.First.the-variants.{At, Nothing}
 use Rattle.seek.proofs.first_good.Statement.{statement}
@@ -51,21 +52,44 @@ module _ (family : ℕ) (s : List ℕ) (from at : ℕ) (passed : Passed (head fa
       passes (head family) s from at passed 1
       (λ j p. let same : at ≡ at + j = omega arith in rw (← same) not-here)
 
+-- nor is a bad start
+bad-not-good : {h : Head} → h ≡ bad → NotGood h
+bad-not-good e n f g = let z : _≡_ {A = ℕ} 0 1 = cc in omega arith
+
 abbrev Inv-loop : tie.InvT-loop
-Inv-loop family s from at₀ at = Passed (head family) s from at
+Inv-loop family s from first at₀ at = Passed (head family) s from at
 
 abbrev μ-loop : tie.MeasureT-loop
-μ-loop family s from at₀ at = length s - at
+μ-loop family s from first at₀ at = length s - at
 
 -- what was seen at `at`
-here : (c : tie.After-examine Inv-loop μ-loop) → c .examine .result ≡ seen (c .before .before .before .before .before .args .family) (drop (c .before .before .before .loop .at) (c .before .before .before .before .before .args .s .now))
+here : (c : tie.After-examine Inv-loop μ-loop) → c .examine .result ≡ seen (c .before .before .before .before .before .before .before .before .args .family) (drop (c .before .before .before .before .before .loop .at) (c .before .before .before .before .before .before .before .before .args .s .now))
 here c =
-    let s = c .before .before .before .before .before .args .s .now in
-    let at = c .before .before .before .loop .at in
+    let s = c .before .before .before .before .before .before .before .before .args .s .now in
+    let at = c .before .before .before .before .before .loop .at in
     c .examine .ensures ∙ ap (seen _) (take-all (length s - at) (drop at s) (omega (arith, length-drop at s)))
+
+first-of-requires : tie.Need-first-of-requires Inv-loop μ-loop
+first-of-requires c κs = search needs
 
 loop-holds : tie.Need-loop-holds Inv-loop μ-loop
 loop-holds c = nothing-passed _ _ _
+
+shared-slice-read-if1 : tie.Need-shared-slice-read-if1 Inv-loop μ-loop
+shared-slice-read-if1 c = omega arith
+
+add-at : tie.Need-add-at Inv-loop μ-loop
+add-at c = omega arith
+
+loop-less : tie.Need-loop-less Inv-loop μ-loop
+loop-less c = omega arith
+
+loop-again : tie.Need-loop-again Inv-loop μ-loop
+loop-again c =
+    let loop = c .before .before .before .loop in
+    let a = c .before .before .before .before .before .before .args in
+    goes-on (a .family) (a .s .now) (a .from) (loop .at) (loop .inv)
+    (bad-not-good (other-first (a .family) (a .s .now) (loop .at) _ (omega arith) (c .before .before .before .before .first-of .ensures) (c .if1 .taken) .0))
 
 sub-examine : tie.Need-sub-examine Inv-loop μ-loop
 sub-examine c = omega arith
@@ -84,28 +108,28 @@ enum-known-n c = search needs
 
 returns : tie.Need-returns Inv-loop μ-loop
 returns c =
-    let loop = c .before .before .before .before .before .before .loop in
-    let a = c .before .before .before .before .before .before .before .before .args in
+    let loop = c .before .before .before .before .before .before .before .before .loop in
+    let a = c .before .before .before .before .before .before .before .before .before .before .before .args in
     stops (a .family) (a .s .now) (a .from) (loop .at) (loop .inv) _ _
     (seen-good (a .family) (drop (loop .at) (a .s .now)) _ _ (sym (here (c .before .before .before)) ∙ c .before .n .given .1))
 
-add-at : tie.Need-add-at Inv-loop μ-loop
-add-at c = omega arith
+add-at-2 : tie.Need-add-at-2 Inv-loop μ-loop
+add-at-2 c = omega arith
 
-loop-less : tie.Need-loop-less Inv-loop μ-loop
-loop-less c = omega arith
+loop-less-2 : tie.Need-loop-less-2 Inv-loop μ-loop
+loop-less-2 c = omega arith
 
-loop-again : tie.Need-loop-again Inv-loop μ-loop
-loop-again c =
-    let loop = c .before .before .before .before .loop in
-    let a = c .before .before .before .before .before .before .args in
+loop-again-2 : tie.Need-loop-again-2 Inv-loop μ-loop
+loop-again-2 c =
+    let loop = c .before .before .before .before .before .before .loop in
+    let a = c .before .before .before .before .before .before .before .before .before .args in
     goes-on (a .family) (a .s .now) (a .from) (loop .at) (loop .inv)
     (λ n f e. other _ (c .match .keys2) n f (here (c .before) ∙ good-seen (a .family) (drop (loop .at) (a .s .now)) n f e))
 
 returns-2 : tie.Need-returns-2 Inv-loop μ-loop
 returns-2 c =
     let loop = c .before .loop in
-    let a = c .before .before .before .args in
+    let a = c .before .before .before .before .args in
     ends (a .family) (a .s .now) (a .from) (loop .at) (loop .inv) (c .loop-test .left)
 
 pub first-good-spec : {M : Type 1} → statement M
@@ -114,14 +138,19 @@ first-good-spec =
     (tie.spec
     Inv-loop
     μ-loop
+    first-of-requires
     loop-holds
+    shared-slice-read-if1
+    add-at
+    loop-less
+    loop-again
     sub-examine
     part-examine-start
     part-examine-end
     examine-requires
     enum-known-n
     returns
-    add-at
-    loop-less
-    loop-again
+    add-at-2
+    loop-less-2
+    loop-again-2
     returns-2)

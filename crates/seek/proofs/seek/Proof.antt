@@ -20,6 +20,7 @@ use Rattle.seek_laws.proofs.Starts.{BadBefore, look-at-good, look-at-wait, look
 use Rattle.heads.specs.Seen.{seen}
 use Rattle.heads.proofs.Starts.{seen-good, seen-bad, seen-undecided}
 use Rattle.seek.specs.Sought.{soughtIn}
+use Rattle.seek.proofs.Firsts.{other-first}
 use Rattle.seek.specs.declared.Sought.{Sought}
 use Rattle.seek.specs.declared.Sought.the-variants.{Ready, Waiting}
 use Rattle.seek.proofs.seek.Statement.{statement}
@@ -53,24 +54,63 @@ module _ (family : ℕ) (s : List ℕ) (at : ℕ) (before : BadBefore (head fami
       let there = settling family (drop at s) (λ e. let z : _≡_ {A = ℕ} 0 1 = cc (h .0) in omega arith) .there in
       omega (arith, there, h .1, length-drop at s)
 
+-- behind a bad start that d bytes settled, the walk knows one start more
+next : (family : ℕ) (s : List ℕ) (at far on d : ℕ) → at + 1 ≤ length s → BadBefore (head family) s at → far ≡ reach family at s
+    → (head family (drop at s) ≡ bad) × (settled family (drop at s) ≡ d) → on ≡ max far (at + d)
+    → (at + 1 ≤ length s) × (BadBefore (head family) s (at + 1) × (on ≡ reach family (at + 1) s))
+unfolding reach
+next family s at far on d there before e is-bad to = (
+  there,
+  (
+    below-more (λ (j : ℕ). head family (drop j s) ≡ bad) at before (is-bad .0),
+    to ∙ (λ i. max (e i) (at + sym (is-bad .1) i)) ∙ ap (λ (k : ℕ). reach family k s) (sym (add-one at)),
+  ),
+)
+
 abbrev Inv-loop : tie.InvT-loop
-Inv-loop family s at₀ far₀ at far = (at ≤ length s) × (BadBefore (head family) s at × (far ≡ reach family at s))
+Inv-loop family s first at₀ far₀ at far = (at ≤ length s) × (BadBefore (head family) s at × (far ≡ reach family at s))
 
 abbrev μ-loop : tie.MeasureT-loop
-μ-loop family s at₀ far₀ at far = length s - at
+μ-loop family s first at₀ far₀ at far = length s - at
 
 -- what was seen at `at`
-here : (c : tie.After-examine Inv-loop μ-loop) → c .examine .result ≡ seen (c .before .before .before .before .before .args .family) (drop (c .before .before .before .loop .at) (c .before .before .before .before .before .args .s .now))
+here : (c : tie.After-examine Inv-loop μ-loop) → c .examine .result ≡ seen (c .before .before .before .before .before .before .before .before .args .family) (drop (c .before .before .before .before .before .loop .at) (c .before .before .before .before .before .before .before .before .args .s .now))
 here c =
-    let s = c .before .before .before .before .before .args .s .now in
-    let at = c .before .before .before .loop .at in
+    let s = c .before .before .before .before .before .before .before .before .args .s .now in
+    let at = c .before .before .before .before .before .loop .at in
     c .examine .ensures ∙ ap (seen _) (take-all (length s - at) (drop at s) (omega (arith, length-drop at s)))
+
+first-of-requires : tie.Need-first-of-requires Inv-loop μ-loop
+first-of-requires c κs = search needs
 
 loop-holds : tie.Need-loop-holds Inv-loop μ-loop
 unfolding reach
 loop-holds c =
-    let a = c .before .args in
+    let a = c .before .before .args in
     (omega arith, (below-none (λ (j : ℕ). head (a .family) (drop j (a .s .now)) ≡ bad), refl))
+
+shared-slice-read-if1 : tie.Need-shared-slice-read-if1 Inv-loop μ-loop
+shared-slice-read-if1 c = omega arith
+
+add-further : tie.Need-add-further Inv-loop μ-loop
+add-further c = omega arith
+
+further-requires : tie.Need-further-requires Inv-loop μ-loop
+further-requires c κs = search needs
+
+add-at : tie.Need-add-at Inv-loop μ-loop
+add-at c = omega arith
+
+loop-less : tie.Need-loop-less Inv-loop μ-loop
+loop-less c = omega arith
+
+loop-again : tie.Need-loop-again Inv-loop μ-loop
+loop-again c =
+    let loop = c .before .before .before .before .loop in
+    let a = c .before .before .before .before .before .before .before .args in
+    let s = a .s .now in
+    let is-bad = other-first (a .family) s (loop .at) _ (omega arith) (c .before .before .before .before .before .first-of .ensures) (c .before .if1 .taken) in
+    next (a .family) s (loop .at) _ _ 1 (omega arith) (loop .inv .1 .0) (loop .inv .1 .1) is-bad (c .further .ensures)
 
 sub-examine : tie.Need-sub-examine Inv-loop μ-loop
 sub-examine c = omega arith
@@ -89,8 +129,8 @@ enum-known-n c = search needs
 
 returns : tie.Need-returns Inv-loop μ-loop
 returns c =
-    let loop = c .before .before .before .before .before .before .loop in
-    let a = c .before .before .before .before .before .before .before .before .args in
+    let loop = c .before .before .before .before .before .before .before .before .loop in
+    let a = c .before .before .before .before .before .before .before .before .before .before .before .args in
     stops-at-good (a .family) (a .s .now) (loop .at) (loop .inv .1 .0) _ _ _ (loop .inv .1 .1)
     (seen-good (a .family) (drop (loop .at) (a .s .now)) _ _ (sym (here (c .before .before .before)) ∙ c .before .n .given .1))
 
@@ -99,50 +139,42 @@ enum-told c = search needs
 
 returns-2 : tie.Need-returns-2 Inv-loop μ-loop
 returns-2 c =
-    let loop = c .before .before .before .before .before .loop in
-    let a = c .before .before .before .before .before .before .before .args in
+    let loop = c .before .before .before .before .before .before .before .loop in
+    let a = c .before .before .before .before .before .before .before .before .before .before .args in
     stops-at-wait (a .family) (a .s .now) (loop .at) (loop .inv .1 .0) (loop .inv .0)
     (seen-undecided (a .family) (drop (loop .at) (a .s .now)) (sym (here (c .before .before)) ∙ c .enum-told .given .1))
 
 enum-known-d : tie.Need-enum-known-d Inv-loop μ-loop
 enum-known-d c = search needs
 
-add-further : tie.Need-add-further Inv-loop μ-loop
-add-further c =
-    let loop = c .before .before .before .before .before .before .loop in
-    let a = c .before .before .before .before .before .before .before .before .args in
+add-further-2 : tie.Need-add-further-2 Inv-loop μ-loop
+add-further-2 c =
+    let loop = c .before .before .before .before .before .before .before .before .loop in
+    let a = c .before .before .before .before .before .before .before .before .before .before .before .args in
     let is-bad = seen-bad (a .family) (drop (loop .at) (a .s .now)) _ (sym (here (c .before .before .before)) ∙ c .before .d .given .1) in
     omega (arith, settles (a .family) (a .s .now) (loop .at) (loop .inv .1 .0) (c .before .d .given .0 .0) is-bad)
 
-further-requires : tie.Need-further-requires Inv-loop μ-loop
-further-requires c κs = search needs
+further-requires-2 : tie.Need-further-requires-2 Inv-loop μ-loop
+further-requires-2 c κs = search needs
 
-add-at : tie.Need-add-at Inv-loop μ-loop
-add-at c = omega arith
+add-at-2 : tie.Need-add-at-2 Inv-loop μ-loop
+add-at-2 c = omega arith
 
-loop-less : tie.Need-loop-less Inv-loop μ-loop
-loop-less c = omega arith
+loop-less-2 : tie.Need-loop-less-2 Inv-loop μ-loop
+loop-less-2 c = omega arith
 
-loop-again : tie.Need-loop-again Inv-loop μ-loop
-unfolding reach
-loop-again c =
-    let loop = c .before .before .before .before .before .before .before .loop in
-    let a = c .before .before .before .before .before .before .before .before .before .args in
+loop-again-2 : tie.Need-loop-again-2 Inv-loop μ-loop
+loop-again-2 c =
+    let loop = c .before .before .before .before .before .before .before .before .before .loop in
+    let a = c .before .before .before .before .before .before .before .before .before .before .before .before .args in
     let s = a .s .now in
-    let is-bad = seen-bad (a .family) (drop (loop .at) s) _ (sym (here (c .before .before .before .before)) ∙ c .before .before .d .given .1) in (
-      omega arith,
-      (
-        below-more (λ (j : ℕ). head (a .family) (drop j s) ≡ bad) (loop .at) (loop .inv .1 .0) (is-bad .0),
-        c .further .ensures
-            ∙ (λ i. max (loop .inv .1 .1 i) (loop .at + sym (is-bad .1) i))
-            ∙ ap (λ (k : ℕ). reach (a .family) k s) (sym (add-one (loop .at))),
-      ),
-    )
+    let is-bad = seen-bad (a .family) (drop (loop .at) s) _ (sym (here (c .before .before .before .before)) ∙ c .before .before .d .given .1) in
+    next (a .family) s (loop .at) _ _ _ (omega arith) (loop .inv .1 .0) (loop .inv .1 .1) is-bad (c .further2 .ensures)
 
 returns-3 : tie.Need-returns-3 Inv-loop μ-loop
 returns-3 c =
     let loop = c .before .loop in
-    let a = c .before .before .before .args in
+    let a = c .before .before .before .before .args in
     ends (a .family) (a .s .now) (loop .at) (loop .inv .1 .0) (omega arith)
 
 pub seek-spec : {M : Type 1} → statement M
@@ -151,7 +183,14 @@ seek-spec =
     (tie.spec
     Inv-loop
     μ-loop
+    first-of-requires
     loop-holds
+    shared-slice-read-if1
+    add-further
+    further-requires
+    add-at
+    loop-less
+    loop-again
     sub-examine
     part-examine-start
     part-examine-end
@@ -161,9 +200,9 @@ seek-spec =
     enum-told
     returns-2
     enum-known-d
-    add-further
-    further-requires
-    add-at
-    loop-less
-    loop-again
+    add-further-2
+    further-requires-2
+    add-at-2
+    loop-less-2
+    loop-again-2
     returns-3)

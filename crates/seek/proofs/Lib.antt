@@ -1,0 +1,2 @@
+-- `Firsts` has what the first byte of a start settles.
+pub mod Firsts
