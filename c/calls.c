@@ -1,12 +1,11 @@
 /* Calls every function of the header with arguments whose results are known: the cases of the bench
  * sheet, the sentences that the Alpha's paper prints, each number for no, and what has to be left alone.
  * A line for each check that fails, a last line 'N checks, M wrong', and status 0 only if none is. */
-#include "amp.h"
-#include "sys.h"
+#include "calls.h"
 
 static unsigned checks, wrong;
 
-static void check(int right, const char *what)
+void check(int right, const char *what)
 {
     checks++;
     if (!right) {
@@ -15,30 +14,12 @@ static void check(int right, const char *what)
     }
 }
 
-/* ---- Bytes ---------------------------------------------------------------------------------- */
+/* ---- Values ---------------------------------------------------------------------------------- */
 
-#define DATA_5 ",20K,S,R,x,2,03,2t,0r,M,0000, 0.00, 0.00, 0.0, 0.0, 31, 29, 30,N,N,"
-#define CASE_1 "\xAA\xAA\xAA\xAA\x01\x0D\x0D"
-#define CASE_2 "\xAA\xAA\xAA\x01\x0D\x0D\xAA\xAA\xAA\x01\x09\x09"
-#define CASE_3 "\xAA\xAA\xAA\x01\x0D\x0E\xAA\xAA\xAA\x01\x09\x09"
-#define CASE_4 "\xAA\xAA\xAA\x43" CASE_2
-#define CASE_5 "\xAA\xAA\xAA\x43" DATA_5 "\x6A\x0D\x0D\x0A"
-#define CASE_6 "\xAA\xAA\xAA\x43" DATA_5 "\x0D\x6A\x0D\x0A"
-#define CASE_7 "$APA05,11,18,1B,34,00,2A,01*A844"
-#define CASE_8 "$APA05,11,18,1B,34,00,2A,01*a844"
-#define CASE_9 "$APA0" CASE_7
-#define PRINTED_02 "$APA02,15017,010,2590,3169,0768,230,096,057,1,6,01,0,15721*D83F"
-#define PRINTED_03 "$APA03,499,121,240,121,389,2370,000,5,+028.0*9D7D"
-#define PRINTED_11 "$APA11,02,0000,00EA,0068,0068*72B4"
-
-/* A text with a byte pointer and its length, as the two arguments of one lent slice. */
-#define SLICE(text) (const uint8_t *)(text), sizeof(text) - 1
-#define NOTHING SLICE("")
-
-static const int64_t values_5[] = {
+const int64_t values_5[20] = {
     20, 'S', 'R', 'x', 2, 3, 2, 't', 0, 'M', 0, 0, 0, 0, 0, 31, 29, 30, 'N', 'N'
 };
-static const int64_t values_7[] = {1, 1, 1, 8, 1, 11, 3, 4, 0, 42, 1};
+const int64_t values_7[11] = {1, 1, 1, 8, 1, 11, 3, 4, 0, 42, 1};
 static const int64_t values_02[] = {
     15017, 10, 2590, 3169, 768, 230, 96, 57, 1, 6, 1, 0, 15721
 };
@@ -46,13 +27,11 @@ static const int64_t values_03[] = {499, 121, 240, 121, 389, 2370, 0, 5, 280};
 
 /* ---- Lent memory ---------------------------------------------------------------------------- */
 
-/* A row with two places behind it that nobody may touch. */
-#define UNTOUCHED INT64_C(-77)
-static int64_t row[AMP_ROW + 2];
+int64_t row[AMP_ROW + 2];
 static uint8_t out[160];
 static uint32_t starts[65536];
 
-static void clear_row(void)
+void clear_row(void)
 {
     size_t i;
 
@@ -60,8 +39,7 @@ static void clear_row(void)
         row[i] = UNTOUCHED;
 }
 
-/* Whether the row has these numbers in front, then these values, and is untouched behind them. */
-static int row_is(const int64_t *head, const int64_t *values, size_t many)
+int row_is(const int64_t *head, const int64_t *values, size_t many)
 {
     size_t i;
 
@@ -75,7 +53,7 @@ static int row_is(const int64_t *head, const int64_t *values, size_t many)
     return 1;
 }
 
-static int row_untouched(void)
+int row_untouched(void)
 {
     size_t i;
 
@@ -284,137 +262,6 @@ static void next(void)
     no_next("too long", 1, large, 65537, 1, 0);
 }
 
-/* ---- Streams -------------------------------------------------------------------------------- */
-
-static void does_not_feed(const char *what, amp_reader *reader, const uint8_t *bytes, size_t n,
-                          size_t room, uint32_t number)
-{
-    amp_reader before = *reader;
-
-    clear_row();
-    check(amp_feed(reader, bytes, n, row, room) == number, what);
-    check(row_untouched() && memcmp(&before, reader, sizeof before) == 0, what);
-}
-
-/* Feeds, and holds the row to what is expected. It has just the room that it needs; with a place less it
- * is refused, and nothing is fed. */
-static void feeds(const char *what, amp_reader *reader, const uint8_t *bytes, size_t n,
-                  const int64_t *head, const int64_t *values, size_t many)
-{
-    does_not_feed(what, reader, bytes, n, AMP_VALUES + many - 1, AMP_NO_ROOM);
-    clear_row();
-    check(amp_feed(reader, bytes, n, row, AMP_VALUES + many) == 0, what);
-    check(row_is(head, values, many), what);
-}
-
-#define HEAD(kind, code, taken, start, skipped, length) \
-    (const int64_t[]){kind, code, taken, start, skipped, length}
-
-static const uint8_t zeros[75];
-
-static void fresh(void)
-{
-    amp_reader reader, before;
-
-    memset(&reader, 0x5A, sizeof reader);
-    before = reader;
-    check(amp_fresh(&reader, 0) == AMP_NO_FAMILY, "fresh of family 0");
-    check(amp_fresh(&reader, 4) == AMP_NO_FAMILY, "fresh of family 4");
-    check(amp_fresh(&reader, 257) == AMP_NO_FAMILY, "fresh of family 257");
-    check(memcmp(&before, &reader, sizeof before) == 0, "a refused reader is as it was");
-    check(amp_fresh(&reader, 2) == 0, "fresh of family 2");
-    check(reader.family == 2 && memcmp((uint8_t *)&reader + 1, zeros, 75) == 0, "fresh, front");
-    check(memcmp((uint8_t *)&reader + 76, zeros, 68) == 0, "fresh, back");
-}
-
-/* Case 4: two acknowledgements behind the front of a report are held back until it is decided. */
-static void held_back(void)
-{
-    amp_reader reader;
-
-    check(amp_fresh(&reader, 1) == 0, "fresh");
-    feeds("16 bytes", &reader, SLICE(CASE_4), HEAD(AMP_MORE, 0, 16, 0, 0, 0), NULL, 0);
-    check(reader.count == 16 && reader.at == 0, "16 bytes held");
-    feeds("byte 75", &reader, zeros, 60, HEAD(AMP_ACK, 0x0D, 59, 4, 4, 6), NULL, 0);
-    feeds("the second", &reader, zeros, 1, HEAD(AMP_ACK, 0x09, 0, 10, 0, 6), NULL, 0);
-    feeds("then more", &reader, zeros, 1, HEAD(AMP_MORE, 0, 1, 0, 0, 0), NULL, 0);
-    check(reader.count == 0 && reader.at == 76 && reader.skipped == 60, "zeros skipped");
-}
-
-/* The same, closed behind the 16 bytes. */
-static void drained(void)
-{
-    amp_reader reader;
-
-    check(amp_fresh(&reader, 1) == 0, "fresh");
-    feeds("16 bytes", &reader, SLICE(CASE_4), HEAD(AMP_MORE, 0, 16, 0, 0, 0), NULL, 0);
-    check(amp_close(&reader) == 0 && reader.closed == 1 && reader.count == 16, "close");
-    check(amp_close(&reader) == 0 && reader.closed == 1 && reader.count == 16, "close twice");
-    does_not_feed("closed", &reader, zeros, 1, AMP_ROW, AMP_CLOSED);
-    does_not_feed("closed before no row", &reader, zeros, 1, 0, AMP_CLOSED);
-    feeds("drained", &reader, NOTHING, HEAD(AMP_ACK, 0x0D, 0, 4, 4, 6), NULL, 0);
-    feeds("drained on", &reader, NOTHING, HEAD(AMP_ACK, 0x09, 0, 10, 0, 6), NULL, 0);
-    feeds("done", &reader, NOTHING, HEAD(AMP_DONE, 0, 0, 0, 0, 0), NULL, 0);
-    feeds("done again", &reader, NOTHING, HEAD(AMP_DONE, 0, 0, 0, 0, 0), NULL, 0);
-    check(amp_fresh(&reader, 3) == 0 && amp_close(&reader) == 0, "case 11");
-    feeds("case 11", &reader, NOTHING, HEAD(AMP_DONE, 0, 0, 0, 0, 0), NULL, 0);
-}
-
-/* A frame with values; a place that wraps; the rest that is offered again. */
-static void handed_out(void)
-{
-    amp_reader reader;
-
-    check(amp_fresh(&reader, 1) == 0, "fresh");
-    reader.at = UINT32_MAX;
-    feeds("case 5", &reader, SLICE("x" CASE_5 "yz"), HEAD(AMP_STATUS, 0, 76, 0, 1, 75),
-          values_5, AMP_STATUS_VALUES);
-    feeds("the rest", &reader, SLICE("yz"), HEAD(AMP_MORE, 0, 2, 0, 0, 0), NULL, 0);
-    check(reader.at == 77 && reader.skipped == 2, "the place behind");
-    check(amp_fresh(&reader, 2) == 0, "fresh");
-    feeds("case 9", &reader, SLICE(CASE_9), HEAD(AMP_SENTENCE, 5, 37, 5, 5, 32),
-          values_7, AMP_05_VALUES);
-    check(amp_fresh(&reader, 3) == 0, "fresh");
-    feeds("a command", &reader, SLICE("\x55\x55\x55\x01\x0D\x0D"),
-          HEAD(AMP_COMMAND, 0x0D, 6, 0, 0, 6), NULL, 0);
-}
-
-/* Whether a reader that claims to hold count bytes is refused by both calls, and left alone. */
-static void holds_too_much(uint8_t family, uint8_t count)
-{
-    amp_reader reader, before;
-
-    memset(&reader, 7, sizeof reader);
-    reader.family = family;
-    reader.count = count;
-    before = reader;
-    check(amp_close(&reader) == AMP_HOLDS_TOO_MUCH, "close, too much held");
-    check(memcmp(&before, &reader, sizeof before) == 0, "close, too much held: state");
-    does_not_feed("feed, too much held", &reader, zeros, 1, AMP_ROW, AMP_HOLDS_TOO_MUCH);
-    does_not_feed("too much held before no row", &reader, zeros, 1, 0, AMP_HOLDS_TOO_MUCH);
-}
-
-static void states_refused(void)
-{
-    amp_reader reader, before;
-
-    holds_too_much(1, 75);
-    holds_too_much(2, 134);
-    holds_too_much(3, 6);
-    holds_too_much(3, 255);
-    memset(&reader, 255, sizeof reader);
-    before = reader;
-    check(amp_close(&reader) == AMP_NO_FAMILY, "close, no family before too much held");
-    check(memcmp(&before, &reader, sizeof before) == 0, "close, no family: state");
-    does_not_feed("no family before closed", &reader, zeros, 1, AMP_ROW, AMP_NO_FAMILY);
-    does_not_feed("no family before no row", &reader, zeros, 1, 0, AMP_NO_FAMILY);
-    memset(&reader, 7, sizeof reader);
-    reader.family = 2;
-    reader.count = 2;
-    check(amp_close(&reader) == 0 && reader.held[1] == 7 && reader.held[2] == 0,
-          "unused places become zero");
-}
-
 /* ---- Writers -------------------------------------------------------------------------------- */
 
 static void writes(const char *what, uint32_t kind, uint32_t code, const int64_t *values,
@@ -515,11 +362,7 @@ int main(void)
     worked_out();
     listing();
     next();
-    fresh();
-    held_back();
-    drained();
-    handed_out();
-    states_refused();
+    stream_calls();
     writing();
     spoiled_values();
     enabling();

@@ -7,360 +7,7 @@
  *
  * The same seed makes the same calls. The first wrong calls are printed, and a last line 'N calls, M
  * wrong'; the status is 0 only if none is. */
-#include "amp.h"
-#include "captures.h"
-#include "sys.h"
-
-/* ---- Chances -------------------------------------------------------------------------------- */
-
-static uint64_t state;
-
-static uint64_t chance(void)
-{
-    uint64_t z = state += UINT64_C(0x9E3779B97F4A7C15);
-
-    z = (z ^ z >> 30) * UINT64_C(0xBF58476D1CE4E5B9);
-    z = (z ^ z >> 27) * UINT64_C(0x94D049BB133111EB);
-    return z ^ z >> 31;
-}
-
-static size_t below(size_t limit)
-{
-    return (size_t)(chance() >> 16) % limit;
-}
-
-static int once_in(size_t many)
-{
-    return below(many) == 0;
-}
-
-static void fill(void *to, size_t n)
-{
-    uint8_t *at = to;
-    uint64_t word = 0;
-    size_t i;
-
-    for (i = 0; i < n; i++, word >>= 8) {
-        if (i % 8 == 0)
-            word = chance();
-        at[i] = (uint8_t)word;
-    }
-}
-
-/* ---- What is wrong -------------------------------------------------------------------------- */
-
-enum { FRESH, FEED, CLOSE, READ, LIST, NEXT, WRITE, ENABLE, STAMPS, FUNCTIONS };
-
-static const char *const names[FUNCTIONS] = {
-    "amp_fresh", "amp_feed", "amp_close", "amp_read", "amp_list", "amp_next", "amp_write",
-    "amp_write_enable", "amp_stamp_order"
-};
-
-#define TOLD 20
-static unsigned long calls, wrong, told;
-static unsigned function;
-static int this_wrong;
-
-/* How often each function gave each number, to show that all of them come up. */
-#define NUMBERS 9
-static unsigned long gave[FUNCTIONS][NUMBERS];
-
-static void expect(int right, const char *what)
-{
-    if (right)
-        return;
-    if (!this_wrong)
-        wrong++;
-    this_wrong = 1;
-    if (told++ < TOLD)
-        printf("wrong: call %lu, %s: not %s\n", calls, names[function], what);
-}
-
-#define EXPECT(what) expect(what, #what)
-
-/* Takes note of a function's number. Of amp_next it is 0 for none and 1 for a frame. */
-static void note(uint32_t number)
-{
-    EXPECT(number < NUMBERS);
-    if (number < NUMBERS)
-        gave[function][number]++;
-}
-
-static void print_numbers(void)
-{
-    unsigned i, number;
-
-    for (i = 0; i < FUNCTIONS; i++) {
-        printf("%-16s gave", names[i]);
-        for (number = 0; number < NUMBERS; number++)
-            if (gave[i][number] > 0)
-                printf(" %u: %lu", number, gave[i][number]);
-        printf("\n");
-    }
-}
-
-/* ---- Lent memory ---------------------------------------------------------------------------- */
-
-/* All lent memory is taken from one arena, from its end down, with at least GUARD bytes before each
- * part. Behind the arena stands a page that nobody may read, so a look beyond the part that was lent
- * first ends the program. */
-#define GUARD 24u
-#define PAGE 65536u
-#define ARENA (8u * PAGE)
-
-static uint8_t *arena, *before;
-static size_t low;
-
-static int make_arena(void)
-{
-    arena = mmap(NULL, ARENA + PAGE, SYS_READ | SYS_WRITE, SYS_PRIVATE | SYS_ANONYMOUS, -1, 0);
-    before = malloc(ARENA);
-    if (arena == SYS_NO_MAP || before == NULL || mprotect(arena + ARENA, PAGE, 0) != 0)
-        return 0;
-    fill(arena, ARENA);
-    return 1;
-}
-
-static void begin(unsigned which)
-{
-    function = which;
-    calls++;
-    this_wrong = 0;
-    low = ARENA;
-}
-
-static void *lend(size_t n, size_t align)
-{
-    uint8_t *part;
-
-    low = (low - n) / align * align;
-    part = arena + low;
-    low -= GUARD + below(8);
-    return part;
-}
-
-/* Notes what is in the arena before the call. */
-static void seal(void)
-{
-    memcpy(before + low, arena + low, ARENA - low);
-}
-
-/* This part may have changed. */
-static void allow(const void *part, size_t n)
-{
-    size_t at = (size_t)((const uint8_t *)part - arena);
-
-    memcpy(before + at, part, n);
-}
-
-/* Everything else may not. */
-static void finish(void)
-{
-    expect(memcmp(before + low, arena + low, ARENA - low) == 0, "unchanged beside what may change");
-}
-
-/* ---- The rules that a result is held to ----------------------------------------------------- */
-
-static int is_family(uint32_t family)
-{
-    return family >= 1 && family <= 3;
-}
-
-static size_t limit_of(uint32_t family)
-{
-    return family == 1 ? 74 : family == 2 ? 133 : 5;
-}
-
-static int is_code(uint32_t kind, uint32_t code)
-{
-    return (code >= 1 && code <= 0x11) || code == 0x82 || code == 0x83
-        || (code == 0x90 && kind == AMP_COMMAND);
-}
-
-static size_t values_of(uint32_t kind, uint32_t code)
-{
-    if (kind == AMP_STATUS)
-        return AMP_STATUS_VALUES;
-    if (kind != AMP_SENTENCE)
-        return 0;
-    return code == 2 ? AMP_02_VALUES : code == 3 ? AMP_03_VALUES : code == 5 ? AMP_05_VALUES : 0;
-}
-
-static size_t row_size(const int64_t *row)
-{
-    return (AMP_VALUES + values_of((uint32_t)row[AMP_KIND], (uint32_t)row[AMP_CODE])) * sizeof *row;
-}
-
-/* How long the writer makes a frame; 0 where there is no writer. */
-static size_t written_length(uint32_t kind, uint32_t code)
-{
-    if (kind == AMP_ACK || kind == AMP_COMMAND)
-        return 6;
-    if (kind == AMP_STATUS)
-        return 75;
-    if (kind != AMP_SENTENCE)
-        return 0;
-    return code == 2 ? 63 : code == 3 ? 49 : code == 5 ? 32 : 0;
-}
-
-/* Whether kind and code of a row are those of a frame of the family. */
-static int frame_of(uint32_t family, const int64_t *row)
-{
-    int64_t kind = row[AMP_KIND], code = row[AMP_CODE];
-
-    if (family == 2)
-        return kind == AMP_SENTENCE && code >= 0 && code <= 99;
-    if (family == 1 && kind == AMP_STATUS)
-        return code == 0;
-    return kind == (family == 1 ? AMP_ACK : AMP_COMMAND) && code >= 0
-        && is_code((uint32_t)kind, (uint32_t)code);
-}
-
-static int length_fits(const int64_t *row)
-{
-    if (row[AMP_KIND] == AMP_SENTENCE)
-        return row[AMP_LENGTH] >= 11 && row[AMP_LENGTH] <= 134;
-    return row[AMP_LENGTH] == (row[AMP_KIND] == AMP_STATUS ? 75 : 6);
-}
-
-/* ---- Arguments ------------------------------------------------------------------------------ */
-
-/* Captures to take bytes from, made once. Those of kind CLEAN are frames without a gap. */
-#define POOL 16384u
-static uint8_t pool[4][KINDS][POOL];
-
-static void make_pool(void)
-{
-    unsigned family, kind;
-
-    for (family = 1; family <= 3; family++)
-        for (kind = 0; kind < KINDS; kind++)
-            make_capture(family, kind, chance() % 1000000, pool[family][kind], POOL);
-}
-
-/* Also any number, and one that is a family in its low byte only. */
-static uint32_t some_family(void)
-{
-    if (once_in(50))
-        return once_in(2) ? (uint32_t)chance() : (uint32_t)chance() << 8 | (1 + (uint32_t)below(3));
-    return once_in(10) ? (uint32_t)below(5) : 1 + (uint32_t)below(3);
-}
-
-static uint32_t near_family(uint32_t family)
-{
-    return is_family(family) && !once_in(20) ? family : 1 + (uint32_t)below(3);
-}
-
-static size_t some_length(size_t most)
-{
-    static const size_t sharp[] = {0, 1, 3, 4, 5, 6, 7, 11, 32, 74, 75, 76, 133, 134, 135};
-
-    return once_in(4) ? sharp[below(sizeof sharp / sizeof *sharp)] : below(most);
-}
-
-static void spoil(uint8_t *bytes, size_t n)
-{
-    size_t many = once_in(2) ? 1 + below(3) : 0;
-
-    while (n > 0 && many-- > 0)
-        bytes[below(n)] = once_in(2) ? (uint8_t)chance() : (uint8_t)"\xAA\x55\x01\x43$*,0"[below(8)];
-}
-
-/* Bytes of a line of this family, mostly: a part of a capture, whole or spoiled; else rubbish, or
- * nothing but what frames begin with. */
-static void some_bytes(uint8_t *to, size_t n, uint32_t family)
-{
-    size_t i;
-
-    if (n > POOL || once_in(8)) {
-        fill(to, n);
-    } else if (once_in(8)) {
-        for (i = 0; i < n; i++)
-            to[i] = (uint8_t)"\xAA\xAA\xAA\x55\x55\x55\x01\x43$$APA05,*\x0D"[below(18)];
-    } else {
-        memcpy(to, pool[near_family(family)][below(KINDS)] + below(POOL - n + 1), n);
-        spoil(to, n);
-    }
-}
-
-/* A frame of a family out of a clean capture, with its length. */
-static const uint8_t *some_frame(uint32_t family, size_t *n)
-{
-    const uint8_t *capture = pool[family][CLEAN];
-    size_t start = 0;
-
-    *n = amp_next(family, capture, POOL, below(POOL - 300), 0, &start);
-    return capture + start;
-}
-
-static int64_t some_value(void)
-{
-    static const int64_t ends[] = {
-        INT64_MIN, INT64_MAX, -1, 0, 1, 255, 256, 9999, 10000, 65536, INT64_C(0x7FFFFFFF),
-        INT64_C(0x80000000), INT64_C(0xFFFFFFFF), INT64_C(0x100000000), INT64_C(0x100000014)
-    };
-
-    switch (below(3)) {
-    case 0: return (int64_t)chance();
-    case 1: return (int64_t)below(300) - 20;
-    default: return ends[below(sizeof ends / sizeof *ends)];
-    }
-}
-
-static size_t some_row_room(void)
-{
-    return once_in(3) ? below(AMP_ROW) : AMP_ROW + below(4);
-}
-
-/* ---- Readers -------------------------------------------------------------------------------- */
-
-/* States that calls have left behind, so that streams also go on. */
-#define KEPT 64u
-static amp_reader kept[KEPT];
-
-static void keep(const amp_reader *reader)
-{
-    kept[below(KEPT)] = *reader;
-}
-
-/* A state that a reader might have, but for what its bytes mean. */
-static void likely_reader(amp_reader *reader)
-{
-    uint32_t family = 1 + (uint32_t)below(3);
-    size_t limit = limit_of(family), count = below(limit + 1 + (once_in(4) ? 3 : 0));
-
-    fill(reader, sizeof *reader);
-    reader->family = (uint8_t)family;
-    reader->closed = once_in(4) ? (uint8_t)below(256) : (uint8_t)once_in(3);
-    reader->count = (uint8_t)count;
-    some_bytes(reader->held, sizeof reader->held, family);
-    if (once_in(2) && count <= limit)
-        memset(reader->held + count, 0, sizeof reader->held - count);
-    if (once_in(2))
-        reader->at = UINT32_MAX - (uint32_t)below(200);
-}
-
-static void some_reader(amp_reader *reader)
-{
-    if (once_in(6))
-        fill(reader, sizeof *reader);
-    else if (once_in(2))
-        likely_reader(reader);
-    else
-        *reader = kept[below(KEPT)];
-    if (once_in(20))
-        reader->family = (uint8_t)some_family();
-}
-
-static int unused_are_zero(const amp_reader *reader)
-{
-    size_t i;
-
-    for (i = reader->count; i < sizeof reader->held; i++)
-        if (reader->held[i] != 0)
-            return 0;
-    return 1;
-}
+#include "hostile.h"
 
 /* ---- amp_fresh, amp_close ------------------------------------------------------------------- */
 
@@ -561,7 +208,7 @@ static void try_read(void)
 /* Now and then a capture about as long as one may be. */
 static size_t capture_length(void)
 {
-    return once_in(4000) ? LONGEST - 3 + below(6) : some_length(600);
+    return once_in(4000) ? LONGEST - 3 + some_below(6) : some_length(600);
 }
 
 /* More places than a capture can have frames. */
@@ -582,7 +229,7 @@ static void judge_list(uint32_t family, const uint8_t *s, size_t n, const uint32
 static void try_list(void)
 {
     uint32_t family = some_family(), number, *starts;
-    size_t n = capture_length(), room = once_in(2) ? below(4) : below(n / 6 + 20), all = 0, *count;
+    size_t n = capture_length(), room = once_in(2) ? some_below(4) : some_below(n / 6 + 20), all = 0, *count;
     uint8_t *capture;
 
     begin(LIST);
@@ -620,8 +267,8 @@ static void judge_next(uint32_t family, const uint8_t *s, size_t place, uint32_t
 
 static void try_next(void)
 {
-    uint32_t family = some_family(), reports = once_in(2) ? 0 : (uint32_t)chance() >> below(32);
-    size_t n = capture_length(), place = once_in(10) ? (size_t)chance() : below(n + 2);
+    uint32_t family = some_family(), reports = once_in(2) ? 0 : (uint32_t)chance() >> some_below(32);
+    size_t n = capture_length(), place = once_in(10) ? (size_t)chance() : some_below(n + 2);
     size_t size, *start;
     uint8_t *capture;
 
@@ -648,22 +295,22 @@ static void try_next(void)
 /* Replaces some of a row's values, its kind or its code; gives whether it did. */
 static int spoil_record(int64_t *row, size_t many)
 {
-    size_t values = once_in(2) || many == 0 ? 0 : 1 + below(3), i;
+    size_t values = once_in(2) || many == 0 ? 0 : 1 + some_below(3), i;
     int kind = once_in(10), code = once_in(10);
 
     for (i = 0; i < values; i++)
-        row[AMP_VALUES + below(many)] = some_value();
+        row[AMP_VALUES + some_below(many)] = some_value();
     if (kind)
-        row[AMP_KIND] = once_in(4) ? (int64_t)(uint32_t)chance() : (int64_t)below(8);
+        row[AMP_KIND] = once_in(4) ? (int64_t)(uint32_t)chance() : (int64_t)some_below(8);
     if (code)
-        row[AMP_CODE] = once_in(4) ? (int64_t)(uint32_t)chance() : (int64_t)below(260);
+        row[AMP_CODE] = once_in(4) ? (int64_t)(uint32_t)chance() : (int64_t)some_below(260);
     return values > 0 || kind || code;
 }
 
 /* A kind, a code and values that can be written, out of a good frame; often spoiled then. */
 static int some_record(int64_t *row, size_t many)
 {
-    uint32_t family = 1 + (uint32_t)below(3);
+    uint32_t family = 1 + (uint32_t)some_below(3);
     size_t n;
     const uint8_t *frame = some_frame(family, &n);
 
@@ -703,7 +350,7 @@ static void judge_written(const int64_t *row, const uint8_t *out, size_t length)
 
 static void try_write(void)
 {
-    size_t many = once_in(6) ? below(26) : 20, room = once_in(4) ? below(76) : 75 + below(20);
+    size_t many = once_in(6) ? some_below(26) : 20, room = once_in(4) ? some_below(76) : 75 + some_below(20);
     int64_t row[AMP_VALUES + 26], *values;
     uint32_t number;
     size_t *length;
@@ -731,7 +378,7 @@ static void try_write(void)
 
 static void try_enable(void)
 {
-    size_t room = below(8), *length;
+    size_t room = some_below(8), *length;
     uint32_t number;
     uint8_t *out;
 
@@ -757,7 +404,7 @@ static void try_stamps(void)
     uint32_t a = (uint32_t)chance(), b = (uint32_t)chance(), ahead, number;
 
     if (once_in(2))
-        b = a + (once_in(2) ? UINT32_C(0x80000000) : 0) + (uint32_t)below(5) - 2;
+        b = a + (once_in(2) ? UINT32_C(0x80000000) : 0) + (uint32_t)some_below(5) - 2;
     ahead = b - a;
     begin(STAMPS);
     number = amp_stamp_order(a, b);
@@ -786,7 +433,7 @@ int main(int argc, char **argv)
     make_pool();
     printf("seed %lu\n", (unsigned long)seed);
     while (calls < most)
-        tries[below(sizeof tries / sizeof *tries)]();
+        tries[some_below(sizeof tries / sizeof *tries)]();
     print_numbers();
     printf("%lu calls, %lu wrong\n", calls, wrong);
     return wrong == 0 ? 0 : 1;

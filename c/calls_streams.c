@@ -1,0 +1,137 @@
+/* The calls of calls.c that make, feed and close readers. */
+#include "calls.h"
+
+static void does_not_feed(const char *what, amp_reader *reader, const uint8_t *bytes, size_t n,
+                          size_t room, uint32_t number)
+{
+    amp_reader before = *reader;
+
+    clear_row();
+    check(amp_feed(reader, bytes, n, row, room) == number, what);
+    check(row_untouched() && memcmp(&before, reader, sizeof before) == 0, what);
+}
+
+/* Feeds, and holds the row to what is expected. It has just the room that it needs; with a place less it
+ * is refused, and nothing is fed. */
+static void feeds(const char *what, amp_reader *reader, const uint8_t *bytes, size_t n,
+                  const int64_t *head, const int64_t *values, size_t many)
+{
+    does_not_feed(what, reader, bytes, n, AMP_VALUES + many - 1, AMP_NO_ROOM);
+    clear_row();
+    check(amp_feed(reader, bytes, n, row, AMP_VALUES + many) == 0, what);
+    check(row_is(head, values, many), what);
+}
+
+static const uint8_t zeros[75];
+
+static void fresh(void)
+{
+    amp_reader reader, before;
+
+    memset(&reader, 0x5A, sizeof reader);
+    before = reader;
+    check(amp_fresh(&reader, 0) == AMP_NO_FAMILY, "fresh of family 0");
+    check(amp_fresh(&reader, 4) == AMP_NO_FAMILY, "fresh of family 4");
+    check(amp_fresh(&reader, 257) == AMP_NO_FAMILY, "fresh of family 257");
+    check(memcmp(&before, &reader, sizeof before) == 0, "a refused reader is as it was");
+    check(amp_fresh(&reader, 2) == 0, "fresh of family 2");
+    check(reader.family == 2 && memcmp((uint8_t *)&reader + 1, zeros, 75) == 0, "fresh, front");
+    check(memcmp((uint8_t *)&reader + 76, zeros, 68) == 0, "fresh, back");
+}
+
+/* Case 4: two acknowledgements behind the front of a report are held back until it is decided. */
+static void held_back(void)
+{
+    amp_reader reader;
+
+    check(amp_fresh(&reader, 1) == 0, "fresh");
+    feeds("16 bytes", &reader, SLICE(CASE_4), HEAD(AMP_MORE, 0, 16, 0, 0, 0), NULL, 0);
+    check(reader.count == 16 && reader.at == 0, "16 bytes held");
+    feeds("byte 75", &reader, zeros, 60, HEAD(AMP_ACK, 0x0D, 59, 4, 4, 6), NULL, 0);
+    feeds("the second", &reader, zeros, 1, HEAD(AMP_ACK, 0x09, 0, 10, 0, 6), NULL, 0);
+    feeds("then more", &reader, zeros, 1, HEAD(AMP_MORE, 0, 1, 0, 0, 0), NULL, 0);
+    check(reader.count == 0 && reader.at == 76 && reader.skipped == 60, "zeros skipped");
+}
+
+/* The same, closed behind the 16 bytes. */
+static void drained(void)
+{
+    amp_reader reader;
+
+    check(amp_fresh(&reader, 1) == 0, "fresh");
+    feeds("16 bytes", &reader, SLICE(CASE_4), HEAD(AMP_MORE, 0, 16, 0, 0, 0), NULL, 0);
+    check(amp_close(&reader) == 0 && reader.closed == 1 && reader.count == 16, "close");
+    check(amp_close(&reader) == 0 && reader.closed == 1 && reader.count == 16, "close twice");
+    does_not_feed("closed", &reader, zeros, 1, AMP_ROW, AMP_CLOSED);
+    does_not_feed("closed before no row", &reader, zeros, 1, 0, AMP_CLOSED);
+    feeds("drained", &reader, NOTHING, HEAD(AMP_ACK, 0x0D, 0, 4, 4, 6), NULL, 0);
+    feeds("drained on", &reader, NOTHING, HEAD(AMP_ACK, 0x09, 0, 10, 0, 6), NULL, 0);
+    feeds("done", &reader, NOTHING, HEAD(AMP_DONE, 0, 0, 0, 0, 0), NULL, 0);
+    feeds("done again", &reader, NOTHING, HEAD(AMP_DONE, 0, 0, 0, 0, 0), NULL, 0);
+    check(amp_fresh(&reader, 3) == 0 && amp_close(&reader) == 0, "case 11");
+    feeds("case 11", &reader, NOTHING, HEAD(AMP_DONE, 0, 0, 0, 0, 0), NULL, 0);
+}
+
+/* A frame with values; a place that wraps; the rest that is offered again. */
+static void handed_out(void)
+{
+    amp_reader reader;
+
+    check(amp_fresh(&reader, 1) == 0, "fresh");
+    reader.at = UINT32_MAX;
+    feeds("case 5", &reader, SLICE("x" CASE_5 "yz"), HEAD(AMP_STATUS, 0, 76, 0, 1, 75),
+          values_5, AMP_STATUS_VALUES);
+    feeds("the rest", &reader, SLICE("yz"), HEAD(AMP_MORE, 0, 2, 0, 0, 0), NULL, 0);
+    check(reader.at == 77 && reader.skipped == 2, "the place behind");
+    check(amp_fresh(&reader, 2) == 0, "fresh");
+    feeds("case 9", &reader, SLICE(CASE_9), HEAD(AMP_SENTENCE, 5, 37, 5, 5, 32),
+          values_7, AMP_05_VALUES);
+    check(amp_fresh(&reader, 3) == 0, "fresh");
+    feeds("a command", &reader, SLICE("\x55\x55\x55\x01\x0D\x0D"),
+          HEAD(AMP_COMMAND, 0x0D, 6, 0, 0, 6), NULL, 0);
+}
+
+/* Whether a reader that claims to hold count bytes is refused by both calls, and left alone. */
+static void holds_too_much(uint8_t family, uint8_t count)
+{
+    amp_reader reader, before;
+
+    memset(&reader, 7, sizeof reader);
+    reader.family = family;
+    reader.count = count;
+    before = reader;
+    check(amp_close(&reader) == AMP_HOLDS_TOO_MUCH, "close, too much held");
+    check(memcmp(&before, &reader, sizeof before) == 0, "close, too much held: state");
+    does_not_feed("feed, too much held", &reader, zeros, 1, AMP_ROW, AMP_HOLDS_TOO_MUCH);
+    does_not_feed("too much held before no row", &reader, zeros, 1, 0, AMP_HOLDS_TOO_MUCH);
+}
+
+static void states_refused(void)
+{
+    amp_reader reader, before;
+
+    holds_too_much(1, 75);
+    holds_too_much(2, 134);
+    holds_too_much(3, 6);
+    holds_too_much(3, 255);
+    memset(&reader, 255, sizeof reader);
+    before = reader;
+    check(amp_close(&reader) == AMP_NO_FAMILY, "close, no family before too much held");
+    check(memcmp(&before, &reader, sizeof before) == 0, "close, no family: state");
+    does_not_feed("no family before closed", &reader, zeros, 1, AMP_ROW, AMP_NO_FAMILY);
+    does_not_feed("no family before no row", &reader, zeros, 1, 0, AMP_NO_FAMILY);
+    memset(&reader, 7, sizeof reader);
+    reader.family = 2;
+    reader.count = 2;
+    check(amp_close(&reader) == 0 && reader.held[1] == 7 && reader.held[2] == 0,
+          "unused places become zero");
+}
+
+void stream_calls(void)
+{
+    fresh();
+    held_back();
+    drained();
+    handed_out();
+    states_refused();
+}

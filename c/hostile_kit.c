@@ -1,0 +1,350 @@
+/* What the hostile test stands on; hostile.h says what there is. */
+#include "hostile.h"
+
+/* ---- Chances -------------------------------------------------------------------------------- */
+
+uint64_t state;
+
+uint64_t chance(void)
+{
+    uint64_t z = state += UINT64_C(0x9E3779B97F4A7C15);
+
+    z = (z ^ z >> 30) * UINT64_C(0xBF58476D1CE4E5B9);
+    z = (z ^ z >> 27) * UINT64_C(0x94D049BB133111EB);
+    return z ^ z >> 31;
+}
+
+size_t some_below(size_t limit)
+{
+    return (size_t)(chance() >> 16) % limit;
+}
+
+int once_in(size_t many)
+{
+    return some_below(many) == 0;
+}
+
+void fill(void *to, size_t n)
+{
+    uint8_t *at = to;
+    uint64_t word = 0;
+    size_t i;
+
+    for (i = 0; i < n; i++, word >>= 8) {
+        if (i % 8 == 0)
+            word = chance();
+        at[i] = (uint8_t)word;
+    }
+}
+
+/* ---- What is wrong -------------------------------------------------------------------------- */
+
+static const char *const names[FUNCTIONS] = {
+    "amp_fresh", "amp_feed", "amp_close", "amp_read", "amp_list", "amp_next", "amp_write",
+    "amp_write_enable", "amp_stamp_order"
+};
+
+#define TOLD 20
+unsigned long calls, wrong;
+static unsigned long told;
+static unsigned function;
+static int this_wrong;
+
+/* How often each function gave each number, to show that all of them come up. */
+#define NUMBERS 9
+static unsigned long gave[FUNCTIONS][NUMBERS];
+
+void expect(int right, const char *what)
+{
+    if (right)
+        return;
+    if (!this_wrong)
+        wrong++;
+    this_wrong = 1;
+    if (told++ < TOLD)
+        printf("wrong: call %lu, %s: not %s\n", calls, names[function], what);
+}
+
+/* Takes note of a function's number. Of amp_next it is 0 for none and 1 for a frame. */
+void note(uint32_t number)
+{
+    EXPECT(number < NUMBERS);
+    if (number < NUMBERS)
+        gave[function][number]++;
+}
+
+void print_numbers(void)
+{
+    unsigned i, number;
+
+    for (i = 0; i < FUNCTIONS; i++) {
+        printf("%-16s gave", names[i]);
+        for (number = 0; number < NUMBERS; number++)
+            if (gave[i][number] > 0)
+                printf(" %u: %lu", number, gave[i][number]);
+        printf("\n");
+    }
+}
+
+/* ---- Lent memory ---------------------------------------------------------------------------- */
+
+/* All lent memory is taken from one arena, from its end down, with at least GUARD bytes before each
+ * part. Behind the arena stands a page that nobody may read, so a look beyond the part that was lent
+ * first ends the program. */
+#define GUARD 24u
+#define PAGE 65536u
+#define ARENA (8u * PAGE)
+
+static uint8_t *arena, *before;
+static size_t low;
+
+int make_arena(void)
+{
+    arena = mmap(NULL, ARENA + PAGE, SYS_READ | SYS_WRITE, SYS_PRIVATE | SYS_ANONYMOUS, -1, 0);
+    before = malloc(ARENA);
+    if (arena == SYS_NO_MAP || before == NULL || mprotect(arena + ARENA, PAGE, 0) != 0)
+        return 0;
+    fill(arena, ARENA);
+    return 1;
+}
+
+void begin(unsigned which)
+{
+    function = which;
+    calls++;
+    this_wrong = 0;
+    low = ARENA;
+}
+
+void *lend(size_t n, size_t align)
+{
+    uint8_t *part;
+
+    low = (low - n) / align * align;
+    part = arena + low;
+    low -= GUARD + some_below(8);
+    return part;
+}
+
+/* Notes what is in the arena before the call. */
+void seal(void)
+{
+    memcpy(before + low, arena + low, ARENA - low);
+}
+
+/* This part may have changed. */
+void allow(const void *part, size_t n)
+{
+    size_t at = (size_t)((const uint8_t *)part - arena);
+
+    memcpy(before + at, part, n);
+}
+
+/* Everything else may not. */
+void finish(void)
+{
+    expect(memcmp(before + low, arena + low, ARENA - low) == 0, "unchanged beside what may change");
+}
+
+/* ---- The rules that a result is held to ----------------------------------------------------- */
+
+int is_family(uint32_t family)
+{
+    return family >= 1 && family <= 3;
+}
+
+size_t limit_of(uint32_t family)
+{
+    return family == 1 ? 74 : family == 2 ? 133 : 5;
+}
+
+int is_code(uint32_t kind, uint32_t code)
+{
+    return (code >= 1 && code <= 0x11) || code == 0x82 || code == 0x83
+        || (code == 0x90 && kind == AMP_COMMAND);
+}
+
+size_t values_of(uint32_t kind, uint32_t code)
+{
+    if (kind == AMP_STATUS)
+        return AMP_STATUS_VALUES;
+    if (kind != AMP_SENTENCE)
+        return 0;
+    return code == 2 ? AMP_02_VALUES : code == 3 ? AMP_03_VALUES : code == 5 ? AMP_05_VALUES : 0;
+}
+
+size_t row_size(const int64_t *row)
+{
+    return (AMP_VALUES + values_of((uint32_t)row[AMP_KIND], (uint32_t)row[AMP_CODE])) * sizeof *row;
+}
+
+/* How long the writer makes a frame; 0 where there is no writer. */
+size_t written_length(uint32_t kind, uint32_t code)
+{
+    if (kind == AMP_ACK || kind == AMP_COMMAND)
+        return 6;
+    if (kind == AMP_STATUS)
+        return 75;
+    if (kind != AMP_SENTENCE)
+        return 0;
+    return code == 2 ? 63 : code == 3 ? 49 : code == 5 ? 32 : 0;
+}
+
+/* Whether kind and code of a row are those of a frame of the family. */
+int frame_of(uint32_t family, const int64_t *row)
+{
+    int64_t kind = row[AMP_KIND], code = row[AMP_CODE];
+
+    if (family == 2)
+        return kind == AMP_SENTENCE && code >= 0 && code <= 99;
+    if (family == 1 && kind == AMP_STATUS)
+        return code == 0;
+    return kind == (family == 1 ? AMP_ACK : AMP_COMMAND) && code >= 0
+        && is_code((uint32_t)kind, (uint32_t)code);
+}
+
+int length_fits(const int64_t *row)
+{
+    if (row[AMP_KIND] == AMP_SENTENCE)
+        return row[AMP_LENGTH] >= 11 && row[AMP_LENGTH] <= 134;
+    return row[AMP_LENGTH] == (row[AMP_KIND] == AMP_STATUS ? 75 : 6);
+}
+
+/* ---- Arguments ------------------------------------------------------------------------------ */
+
+/* Captures to take bytes from, made once. Those of kind CLEAN are frames without a gap. */
+#define POOL 16384u
+static uint8_t pool[4][KINDS][POOL];
+
+void make_pool(void)
+{
+    unsigned family, kind;
+
+    for (family = 1; family <= 3; family++)
+        for (kind = 0; kind < KINDS; kind++)
+            make_capture(family, kind, chance() % 1000000, pool[family][kind], POOL);
+}
+
+/* Also any number, and one that is a family in its low byte only. */
+uint32_t some_family(void)
+{
+    if (once_in(50))
+        return once_in(2) ? (uint32_t)chance() : (uint32_t)chance() << 8 | (1 + (uint32_t)some_below(3));
+    return once_in(10) ? (uint32_t)some_below(5) : 1 + (uint32_t)some_below(3);
+}
+
+uint32_t near_family(uint32_t family)
+{
+    return is_family(family) && !once_in(20) ? family : 1 + (uint32_t)some_below(3);
+}
+
+size_t some_length(size_t most)
+{
+    static const size_t sharp[] = {0, 1, 3, 4, 5, 6, 7, 11, 32, 74, 75, 76, 133, 134, 135};
+
+    return once_in(4) ? sharp[some_below(sizeof sharp / sizeof *sharp)] : some_below(most);
+}
+
+void spoil(uint8_t *bytes, size_t n)
+{
+    size_t many = once_in(2) ? 1 + some_below(3) : 0;
+
+    while (n > 0 && many-- > 0)
+        bytes[some_below(n)] = once_in(2) ? (uint8_t)chance() : (uint8_t)"\xAA\x55\x01\x43$*,0"[some_below(8)];
+}
+
+/* Bytes of a line of this family, mostly: a part of a capture, whole or spoiled; else rubbish, or
+ * nothing but what frames begin with. */
+void some_bytes(uint8_t *to, size_t n, uint32_t family)
+{
+    size_t i;
+
+    if (n > POOL || once_in(8)) {
+        fill(to, n);
+    } else if (once_in(8)) {
+        for (i = 0; i < n; i++)
+            to[i] = (uint8_t)"\xAA\xAA\xAA\x55\x55\x55\x01\x43$$APA05,*\x0D"[some_below(18)];
+    } else {
+        memcpy(to, pool[near_family(family)][some_below(KINDS)] + some_below(POOL - n + 1), n);
+        spoil(to, n);
+    }
+}
+
+/* A frame of a family out of a clean capture, with its length. */
+const uint8_t *some_frame(uint32_t family, size_t *n)
+{
+    const uint8_t *capture = pool[family][CLEAN];
+    size_t start = 0;
+
+    *n = amp_next(family, capture, POOL, some_below(POOL - 300), 0, &start);
+    return capture + start;
+}
+
+int64_t some_value(void)
+{
+    static const int64_t ends[] = {
+        INT64_MIN, INT64_MAX, -1, 0, 1, 255, 256, 9999, 10000, 65536, INT64_C(0x7FFFFFFF),
+        INT64_C(0x80000000), INT64_C(0xFFFFFFFF), INT64_C(0x100000000), INT64_C(0x100000014)
+    };
+
+    switch (some_below(3)) {
+    case 0: return (int64_t)chance();
+    case 1: return (int64_t)some_below(300) - 20;
+    default: return ends[some_below(sizeof ends / sizeof *ends)];
+    }
+}
+
+size_t some_row_room(void)
+{
+    return once_in(3) ? some_below(AMP_ROW) : AMP_ROW + some_below(4);
+}
+
+/* ---- Readers -------------------------------------------------------------------------------- */
+
+/* States that calls have left behind, so that streams also go on. */
+#define KEPT 64u
+static amp_reader kept[KEPT];
+
+void keep(const amp_reader *reader)
+{
+    kept[some_below(KEPT)] = *reader;
+}
+
+/* A state that a reader might have, but for what its bytes mean. */
+static void likely_reader(amp_reader *reader)
+{
+    uint32_t family = 1 + (uint32_t)some_below(3);
+    size_t limit = limit_of(family), count = some_below(limit + 1 + (once_in(4) ? 3 : 0));
+
+    fill(reader, sizeof *reader);
+    reader->family = (uint8_t)family;
+    reader->closed = once_in(4) ? (uint8_t)some_below(256) : (uint8_t)once_in(3);
+    reader->count = (uint8_t)count;
+    some_bytes(reader->held, sizeof reader->held, family);
+    if (once_in(2) && count <= limit)
+        memset(reader->held + count, 0, sizeof reader->held - count);
+    if (once_in(2))
+        reader->at = UINT32_MAX - (uint32_t)some_below(200);
+}
+
+void some_reader(amp_reader *reader)
+{
+    if (once_in(6))
+        fill(reader, sizeof *reader);
+    else if (once_in(2))
+        likely_reader(reader);
+    else
+        *reader = kept[some_below(KEPT)];
+    if (once_in(20))
+        reader->family = (uint8_t)some_family();
+}
+
+int unused_are_zero(const amp_reader *reader)
+{
+    size_t i;
+
+    for (i = reader->count; i < sizeof reader->held; i++)
+        if (reader->held[i] != 0)
+            return 0;
+    return 1;
+}
