@@ -1,16 +1,17 @@
--- The bench sheet's cases 1 to 11: each is computed from the definitions.
+-- The bench sheet's cases 1 to 11, and what some answers say: each is computed from the definitions.
 -- Assumes nothing.
 use mathlib.Core.Path.{refl}
 use Rattle.rules.specs.Bytes.{total, oneOf, every, same}
 use Rattle.rules.specs.Numbers.{decimalFrom, padded, paddedNumber, pointed, pointedNumber, isHexDigit, hexDigitNumber}
 use Rattle.rules.specs.Codes.{isCode, isAckCode, isCommand, isAck}
 use Rattle.rules.specs.Status.{joined, isStatus, statusFrame, readable, statusInRange, statusOf}
-use Rattle.rules.specs.Sentences.{betweenCommas, gives, is05, isPayload, isPayloadByte, isSentence, sentence05, sum1From, sum2From}
+use Rattle.rules.specs.Sentences.{areDecimals, betweenCommas, fit, gives, inRange02, inRange03, is02, is03, is05, isTemperature, numbers02, numbers03, sentence02, sentence03, temperature, isPayload, isPayloadByte, isSentence, sentence05, sum1From, sum2From}
 use Rattle.rules.specs.Answers.{readFamily1, readFamily2, readFamily3, readOne, readTexts}
 use Rattle.stream_rules.specs.Heads.{head, undecided, spe-undecided, payloadRun}
 use Rattle.stream_rules.specs.Rule.{rule, look, call}
 use Rattle.stream_rules.specs.Streams.{fed, shut, fresh}
 use Rattle.demands.specs.Bench.{BenchSheet}
+use Rattle.demands.specs.Said.{SaidSheet}
 
 pub sheet : BenchSheet
 unfolding readOne readFamily1 isStatus isAck isAckCode isCode oneOf total same every joined statusFrame readable statusInRange statusOf padded paddedNumber pointed pointedNumber decimalFrom readFamily2 readTexts isSentence isPayload isPayloadByte gives sum1From sum2From isHexDigit hexDigitNumber betweenCommas is05 sentence05 readFamily3 isCommand rule look call head undecided spe-undecided payloadRun fed shut fresh
@@ -34,4 +35,20 @@ sheet = record {
   case10-command = refl;
   case11 = (refl, refl, refl);
   case11-listed = λ family. refl;
+}
+
+pub said-sheet : SaidSheet
+unfolding readOne readFamily1 isStatus isAck isAckCode isCode oneOf total same every joined statusFrame readable statusInRange statusOf padded paddedNumber pointed pointedNumber decimalFrom readFamily2 readTexts isSentence isPayload isPayloadByte gives sum1From sum2From isHexDigit hexDigitNumber betweenCommas is05 sentence05 readFamily3 isCommand rule look call head undecided spe-undecided payloadRun fed shut fresh is02 is03 sentence02 sentence03 areDecimals isTemperature temperature fit numbers02 numbers03 inRange02 inRange03
+said-sheet = record {
+  case4 = refl;
+  case4-on = refl;
+  case4-done = refl;
+  case5 = refl;
+  case6 = refl;
+  case7 = refl;
+  case10 = refl;
+  no-family = refl;
+  printed-02 = refl;
+  printed-03 = refl;
+  printed-11 = refl;
 }
