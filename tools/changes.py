@@ -72,21 +72,27 @@ def next_letters(word):
         plain = 32 <= value < 127 and chr(value) not in '"\'\\'
         yield word[:start + m.start()] + (chr(value) if plain else '\\x%02X' % value) + word[start + m.end():]
 
+def past(t, i, ends):
+    """The first place from i on, outside brackets, with one of these tokens."""
+    while t.word(i) not in ends:
+        i = t.partner.get(i, i) + 1
+    return i
+
 def functions(t):
-    """Each public function that promises something: its name, its parameters, its result's type, and its body's tokens."""
+    """Each public function that promises something: its name, its parameters' types, its result's, and its body's tokens. A
+    constant counts as one."""
     for i, token in enumerate(t.tokens):
+        if token.text == 'const':
+            yield t.word(i + 1), {}, '', past(t, i, '=') + 1, past(t, i, ';')
         if token.text != 'fn' or 'pub' not in (t.word(i - 1), t.word(i - 3) if t.word(i - 2) == 'extern' else ''):
             continue
-        j, promises, result, parameters = i + 2, False, '', []
-        while t.word(j) not in ('{', ';'):
-            if t.word(j) in ('requires', 'ensures', 'ghost'):
-                promises, j = promises or t.word(j) == 'ensures', t.partner[j + 1]
-            elif t.word(j) == '->':
-                result = t.word(j + 1)
-            elif t.word(j) == '(':
-                parameters = [t.word(lo) for lo, hi in t.split(j + 1, t.partner[j], lambda w: w == ',') if lo < hi]
-            j = t.partner.get(j, j) + 1
-        if promises and t.word(j) == '{':
+        opened, j, promises = past(t, i, '('), past(t, i, ('requires', 'ensures', 'ghost', '{', ';')), False
+        parts = t.split(opened + 1, t.partner[opened], lambda w: w == ',')
+        result = t.word(t.partner[opened] + 2) if t.word(t.partner[opened] + 1) == '->' else ''
+        while t.word(j) in ('requires', 'ensures', 'ghost'):
+            promises, j = promises or t.word(j) == 'ensures', t.partner[j + 1] + 1
+        if promises:
+            parameters = {t.word(lo): t.part(lo + 2, hi) for lo, hi in parts if lo < hi}
             yield t.word(i + 1), parameters, result, j + 1, t.partner[j]
 
 def is_value(word):
@@ -127,9 +133,13 @@ def operand_changes(t, parameters, lo, hi):
             literal = any(a < i < b and t.word(a) == '{' and t.word(a - 1)[:1].isupper() for a, b in t.partner.items())
             short = literal and before in ('{', ',') and end == i + 1  # a field and its value by one name
             found.append((i, end, t.word(i) + ': ' if short else ''))
-    names = dict.fromkeys(parameters + [t.part(i, end) for i, end, _ in found] + ['0'])
     for i, end, field in found:
-        yield from (t.put(i, end, field + name) for name in names if name != t.part(i, end))
+        old = t.part(i, end)
+        made = [t.part(a, b) for a, b, _ in found if a < i and t.part(a, b) not in parameters]  # so they stand already
+        for new in dict.fromkeys([*parameters, *made, '0']):
+            types = {parameters.get(old, 'any'), 'usize' if new == '0' else parameters.get(new, 'any')} - {'any'}
+            if new != old and (len(types) < 2 or (new == '0' and types <= set(NUMBERS))):
+                yield t.put(i, end, field + new)
 
 def argument_changes(t, lo, hi):
     for i in range(lo, hi):
