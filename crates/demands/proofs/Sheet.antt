@@ -42,6 +42,7 @@ unfolding readOne readFamily1 isStatus isAck isAckCode isCode oneOf total same e
 said-sheet = record {
   case4 = refl;
   case4-on = refl;
+  case4-on-again = refl;
   case4-done = refl;
   case5 = refl;
   case6 = refl;

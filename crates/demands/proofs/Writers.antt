@@ -1,11 +1,13 @@
 -- Demand 2 of the writers that run: what each promises is what the theorems of demand 2 speak of. Then, of a frame that was
 -- read and is written again: where there is room, its own bytes stand at the front of the output if, and only if, its
--- fields stood in the writer's form. And without room nothing is written. Assumes nothing.
+-- fields stood in the writer's form. And without room nothing is written; only a sentence of another number has no writer.
+-- Assumes nothing.
 use Prim.Native.Nat.{ℕ, _≤_, _<_}
-use mathlib.Core.Path.{_≡_, sym, ap, _∙_}
-use mathlib.Core.Bool.{true, _&&_, cond}
+use mathlib.Core.Path.{_≡_, refl, sym, ap, _∙_}
+use mathlib.Core.Bool.{true, false, _&&_, cond}
 use mathlib.Core.List.{List, _++_}
 use mathlib.Core.Logic.{_↔_}
+use native.Mathlib.Omega.{arith}
 use borrow.Author.Tests.{le-leb, lt-leb}
 use lib.ListN.{length, take, drop}
 use lib.Seq.{take-append-seam}
@@ -15,7 +17,7 @@ use Rattle.rules.specs.Sentences.{inRange02, inRange03, inRange05, bytes02, byt
 use Rattle.rules.specs.Answers.{noCode, noRecord, noRoom, allowed, bytesOf, hasWriter, notAllowed, Reads, Writes}
 use Rattle.rules.specs.Form.{inForm}
 use Rattle.rules.specs.declared.Frame.{Frame}
-use Rattle.rules.specs.declared.Frame.the-variants.{Ack, Status, Command, Apa02, Apa03, Apa05}
+use Rattle.rules.specs.declared.Frame.the-variants.{Ack, Status, Command, Apa02, Apa03, Apa05, Other}
 use Rattle.rules.specs.declared.Status as StatusType
 use Rattle.rules.specs.declared.Sentence02.{Sentence02}
 use Rattle.rules.specs.declared.Sentence03.{Sentence03}
@@ -80,3 +82,13 @@ no-room-refused f out answer after w e k =
       w .answers ∙ (λ i. cond (e i) (cond (l i) (Length (length (bytesOf f))) (NotWritten noRoom)) (NotWritten (notAllowed f))),
       w .content ∙ (λ i. cond (e i && l i) (bytesOf f ++ drop (length (bytesOf f)) out) out),
     )
+
+-- Only a sentence of another number has no writer.
+pub only-other : (f : Frame) → hasWriter f ≡ false → (n : ℕ) × (f ≡ Other n)
+only-other (Ack c) e = let z : _≡_ {A = ℕ} 0 1 = cc in absurd (omega arith)
+only-other (Status s) e = let z : _≡_ {A = ℕ} 0 1 = cc in absurd (omega arith)
+only-other (Command c) e = let z : _≡_ {A = ℕ} 0 1 = cc in absurd (omega arith)
+only-other (Apa02 r) e = let z : _≡_ {A = ℕ} 0 1 = cc in absurd (omega arith)
+only-other (Apa03 r) e = let z : _≡_ {A = ℕ} 0 1 = cc in absurd (omega arith)
+only-other (Apa05 r) e = let z : _≡_ {A = ℕ} 0 1 = cc in absurd (omega arith)
+only-other (Other n) e = (n, refl)

@@ -7,15 +7,17 @@ use lib.IntN.{ℤ, pos}
 use Rattle.rules.specs.Bytes.{ascii}
 use Rattle.rules.specs.Answers.{readOne, said, no, yes, ofAck, ofStatus, ofCommand, ofSentence, moreWanted, nowDone}
 use Rattle.stream_rules.specs.Streams.{fed, saidToFeed}
-use Rattle.demands.specs.Bench.{report5, sentence7, first4, on4, closed4-again}
+use Rattle.demands.specs.Bench.{report5, sentence7, first4, on4, on4-again, closed4-again}
 
 abbrev numbers : List ℕ → List ℤ
 numbers ns = map pos ns
 
 pub record SaidSheet : Type 0 where
-  -- Case 4: more is wanted, 16 bytes taken. Then a frame: 59 taken, start 4, skipped 4, 6 bytes long. And done in the end.
+  -- Case 4: more is wanted, 16 bytes taken. Then a frame: 59 taken, start 4, skipped 4, 6 bytes long; and one with none
+  -- taken, start 10, skipped 0. And done in the end.
   pub case4 : saidToFeed (first4 .answer) ≡ yes moreWanted (numbers (16 ∷ []))
   pub case4-on : saidToFeed (on4 .answer) ≡ yes (ofAck 0x0D) (numbers (59 ∷ 4 ∷ 4 ∷ 6 ∷ []))
+  pub case4-on-again : saidToFeed (on4-again .answer) ≡ yes (ofAck 0x09) (numbers (0 ∷ 10 ∷ 0 ∷ 6 ∷ []))
   pub case4-done : saidToFeed (fed (closed4-again .reader) [] .answer) ≡ yes nowDone (numbers (0 ∷ []))
   -- Case 5: ID 20, S, R, x, input 2, band 3, antenna 2 t, antenna 0, M, no power, and 31, 29 and 30 degrees, N, N.
   pub case5 : said (readOne 1 (report5 0x6A 0x0D))
