@@ -26,9 +26,9 @@ pub fn write_frame(f: Frame, out: &mut [u8]) -> Written
     ensures { λ r. ⌜ Writes (allowed f) (notAllowed f) (bytesOf f) (now (out .entry)) r (now (out .exit)) ⌝ }
 {
     match f {
-        Frame::Ack(code) => spe_writer::write_ack(code, out),
+        Frame::Ack(code) => packet_writer::write_ack(code, out),
         Frame::Status(s) => spe_writer::write_status(s, out),
-        Frame::Command(code) => spe_writer::write_command(code, out),
+        Frame::Command(code) => packet_writer::write_command(code, out),
         Frame::Apa02(r) => alpha_writer::write_02(r, out),
         Frame::Apa03(r) => alpha_writer::write_03(r, out),
         Frame::Apa05(r) => alpha_writer::write_05(r, out),

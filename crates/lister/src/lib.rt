@@ -1,11 +1,11 @@
 // The lister: the starts of all frames in a capture, and the earliest frame from a place on.
 mod steps;
 
-use heads::payload_bytes;
 use leaves::one_of;
 use leaves::text;
 use seek::First;
 use seek::first_good;
+use starts::payload_bytes;
 use steps::next_start;
 use steps::packet_size;
 use steps::sentence_size;

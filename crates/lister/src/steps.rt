@@ -1,9 +1,9 @@
 // The steps of a walk along the starts of a capture: how long the good frame here is, with nothing more
 // to come, and where the next start is that may be good. Nothing of a frame is kept.
-use heads::mark_of;
 use leaves::text;
 use spe_tests::is_ack;
 use spe_tests::is_command;
+use starts::mark_of;
 use status_tests::is_status;
 ghost use mathlib.Core.Path.{_≡_};
 ghost use Prim.Native.Nat.{_+_, min, _≤_};

@@ -2,8 +2,8 @@
 // start is examined once.
 use heads::Seen;
 use heads::examine;
-use heads::mark_of;
 use rules::Frame;
+use starts::mark_of;
 ghost use mathlib.Core.Path.{_≡_};
 ghost use Prim.Native.Nat.{max};
 ghost use Rattle.seek.specs.Sought.{firstOf, soughtIn, firstFrom};

@@ -1,5 +1,4 @@
-// Writers of SPE packets. Each writes into the lent output's front, or refuses and leaves it as it
-// was.
+// The writer of a status report: into the lent output's front, or it refuses and leaves that as it was.
 use rules::Status;
 use rules::Written;
 ghost use mathlib.Core.Path.{_≡_};
@@ -7,9 +6,8 @@ ghost use mathlib.Core.Bool.{true};
 ghost use Prim.Native.Nat.{_+_, _≤_, _<_};
 ghost use lib.ListN.{length, take, drop};
 ghost use Rattle.pens.specs.Pens.{laid};
-ghost use Rattle.rules.specs.Answers.{Writes, noCode, noRecord};
+ghost use Rattle.rules.specs.Answers.{Writes, noRecord};
 ghost use Rattle.rules.specs.Bytes.{part};
-ghost use Rattle.rules.specs.Codes.{isCode, isAckCode, packet, ack, command};
 ghost use Rattle.rules.specs.Status.{statusInRange, statusTexts, statusBytes, joined};
 ghost use Rattle.rules.specs.Sentences.{commas};
 ghost use Rattle.spe_writer.specs.Fields.{letter, pointIn, check};
@@ -120,36 +118,4 @@ pub fn write_status(s: Status, out: &mut [u8]) -> Written
     }
     lay_status(s, out);
     Written::Length(75)
-}
-
-// Three marks, the count, and the code twice.
-fn write_packet(mark: u8, code: u8, out: &mut [u8]) -> Written
-    ensures { λ r. ⌜ Writes true noCode (packet mark code) (now (out .entry)) r (now (out .exit)) ⌝ }
-{
-    if out.len() < 6 {
-        return Written::Refused(4);
-    }
-    let bytes = [mark, mark, mark, 1, code, code];
-    pens::put_bytes(out, 0, &bytes);
-    Written::Length(6)
-}
-
-// An acknowledgement: six bytes.
-pub fn write_ack(code: u8, out: &mut [u8]) -> Written
-    ensures { λ r. ⌜ Writes (isAckCode code) noCode (ack code) (now (out .entry)) r (now (out .exit)) ⌝ }
-{
-    if !spe_rules::is_ack_code(code) {
-        return Written::Refused(2);
-    }
-    write_packet(0xAA, code, out)
-}
-
-// A command: six bytes.
-pub fn write_command(code: u8, out: &mut [u8]) -> Written
-    ensures { λ r. ⌜ Writes (isCode code) noCode (command code) (now (out .entry)) r (now (out .exit)) ⌝ }
-{
-    if !spe_rules::is_code(code) {
-        return Written::Refused(2);
-    }
-    write_packet(0x55, code, out)
 }

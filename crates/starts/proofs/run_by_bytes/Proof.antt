@@ -1,4 +1,4 @@
--- `heads::run_by_bytes` meets its contract. The loop's invariant: n payload bytes have been passed, so the run is n bytes
+-- `starts::run_by_bytes` meets its contract. The loop's invariant: n payload bytes have been passed, so the run is n bytes
 -- and the run of what is left. The measure is what is left of the bytes.
 -- Assumes nothing.
 use Prim.Native.Nat.{ℕ, suc, _+_, _-_, _≤_, _<_}
@@ -12,8 +12,8 @@ use lib.ListN.{length, drop, getD}
 use Rattle.rules.specs.Sentences.{isPayloadByte}
 use Rattle.stream_rules.specs.Heads.{payloadRun}
 use Rattle.leaves.proofs.Steps.{at, done}
-use Rattle.heads.proofs.run_by_bytes.Statement.{statement}
-use Rattle.heads.proofs.run_by_bytes.Tie as tie
+use Rattle.starts.proofs.run_by_bytes.Statement.{statement}
+use Rattle.starts.proofs.run_by_bytes.Tie as tie
 
 module _ (p : List ℕ) (n : ℕ) where
   over : length p ≤ n → length (payloadRun (drop n p)) ≡ 0

@@ -1,11 +1,11 @@
--- `spe_writer::write_packet` meets its contract: its six bytes are laid at the front where there is room for them.
+-- `packet_writer::write_packet` meets its contract: its six bytes are laid at the front where there is room for them.
 -- Assumes nothing.
 use mathlib.Core.Path.{refl}
 use native.Mathlib.Omega.{arith}
 use borrow.Author.Needs.{needs}
 use Rattle.pens.proofs.Writing.{has-no-room, writes}
-use Rattle.spe_writer.proofs.write_packet.Statement.{statement}
-use Rattle.spe_writer.proofs.write_packet.Tie as tie
+use Rattle.packet_writer.proofs.write_packet.Statement.{statement}
+use Rattle.packet_writer.proofs.write_packet.Tie as tie
 
 returns : tie.Need-returns
 returns c = has-no-room refl (c .if1 .taken)

@@ -1,4 +1,4 @@
--- `heads::payload_bytes` meets its contract: the run of the first 129 bytes is the run, counted to 129.
+-- `starts::payload_bytes` meets its contract: the run of the first 129 bytes is the run, counted to 129.
 -- Assumes nothing.
 use Prim.Native.Nat.{ℕ}
 use mathlib.Core.Path.{ap, _∙_}
@@ -8,8 +8,8 @@ use borrow.Author.Needs.{needs}
 use lib.ListN.{length}
 use Rattle.stream_rules.specs.Heads.{payloadRun}
 use Rattle.head_laws.proofs.Runs.{run-take}
-use Rattle.heads.proofs.payload_bytes.Statement.{statement}
-use Rattle.heads.proofs.payload_bytes.Tie as tie
+use Rattle.starts.proofs.payload_bytes.Statement.{statement}
+use Rattle.starts.proofs.payload_bytes.Tie as tie
 
 text-requires : tie.Need-text-requires
 text-requires c κs = search needs

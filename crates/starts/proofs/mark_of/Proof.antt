@@ -1,8 +1,8 @@
--- `heads::mark_of` meets its contract: the test of the family picks the mark.
+-- `starts::mark_of` meets its contract: the test of the family picks the mark.
 -- Assumes nothing.
 use borrow.Author.Tests.{eq-eqb, ne-eqb}
-use Rattle.heads.proofs.mark_of.Statement.{statement}
-use Rattle.heads.proofs.mark_of.Tie as tie
+use Rattle.starts.proofs.mark_of.Statement.{statement}
+use Rattle.starts.proofs.mark_of.Tie as tie
 
 returns : tie.Need-returns
 returns c = rw (eq-eqb (c .before .args .family) 3 (c .if1 .taken))

@@ -1,4 +1,4 @@
--- `heads::all_payload` meets its contract. The loop's invariant: what is found so far, with the bytes that are left, is
+-- `starts::all_payload` meets its contract. The loop's invariant: what is found so far, with the bytes that are left, is
 -- what is found in all of them. The measure is what is left of 16.
 -- Assumes nothing.
 use Prim.Native.Nat.{ℕ, _+_, _-_, _≤_, _<_}
@@ -11,8 +11,8 @@ use lib.ListN.{length, drop, getD}
 use Rattle.rules.specs.Bytes.{every}
 use Rattle.rules.specs.Sentences.{isPayloadByte}
 use Rattle.leaves.proofs.Steps.{at, done}
-use Rattle.heads.proofs.all_payload.Statement.{statement}
-use Rattle.heads.proofs.all_payload.Tie as tie
+use Rattle.starts.proofs.all_payload.Statement.{statement}
+use Rattle.starts.proofs.all_payload.Tie as tie
 
 module _ (block : List ℕ) (i : ℕ) (good : Bool) where
   next : i < length block

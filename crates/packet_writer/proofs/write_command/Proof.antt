@@ -1,11 +1,11 @@
--- `spe_writer::write_command` meets its contract: the test is the rule's, and the packet is written where it passes.
+-- `packet_writer::write_command` meets its contract: the test is the rule's, and the packet is written where it passes.
 -- Assumes nothing.
 use mathlib.Core.Path.{sym, _∙_}
 use borrow.Author.Tests.{not-true, not-false}
 use borrow.Author.Needs.{needs}
 use Rattle.pens.proofs.Writing.{refuses, allowed-too}
-use Rattle.spe_writer.proofs.write_command.Statement.{statement}
-use Rattle.spe_writer.proofs.write_command.Tie as tie
+use Rattle.packet_writer.proofs.write_command.Statement.{statement}
+use Rattle.packet_writer.proofs.write_command.Tie as tie
 
 is-code-requires : tie.Need-is-code-requires
 is-code-requires c κs = search needs

@@ -1,4 +1,4 @@
--- `heads::run_by_blocks` meets its contract. The loop's invariant: n payload bytes have been passed, so the run is n bytes
+-- `starts::run_by_blocks` meets its contract. The loop's invariant: n payload bytes have been passed, so the run is n bytes
 -- and the run of what is left. The measure is what is left of the bytes.
 -- Assumes nothing.
 use Prim.Native.Nat.{ℕ, _+_, _-_, _≤_}
@@ -11,8 +11,8 @@ use lib.ListN.{length, drop, length-take, length-drop}
 use Rattle.stream_rules.specs.Heads.{payloadRun}
 use Rattle.head_laws.proofs.Lists.{whole-rest}
 use Rattle.head_laws.proofs.Runs.{run-within, run-from}
-use Rattle.heads.proofs.run_by_blocks.Statement.{statement}
-use Rattle.heads.proofs.run_by_blocks.Tie as tie
+use Rattle.starts.proofs.run_by_blocks.Statement.{statement}
+use Rattle.starts.proofs.run_by_blocks.Tie as tie
 
 abbrev Inv-loop : tie.InvT-loop
 Inv-loop p n₀ n = (n ≤ length p) × (length (payloadRun p) ≡ n + length (payloadRun (drop n p)))

@@ -1,0 +1,66 @@
+// What a start is known by: the mark of its family, and the payload bytes behind a dollar sign.
+use fletcher::payload_byte;
+use leaves::text;
+ghost use mathlib.Core.Path.{_≡_};
+ghost use Prim.Native.Nat.{min};
+ghost use lib.ListN.{length};
+ghost use Rattle.rules.specs.Bytes.{every};
+ghost use Rattle.rules.specs.Sentences.{isPayloadByte};
+ghost use Rattle.stream_rules.specs.Heads.{markOf, payloadRun};
+
+// The mark of an SPE family.
+pub fn mark_of(family: u8) -> u8
+    ensures { λ r. ⌜ r ≡ markOf family ⌝ }
+{
+    if family == 3 { 0x55 } else { 0xAA }
+}
+
+// Whether a block of 16 bytes is all payload bytes. No byte ends the loop, so that it can be compiled
+// to test all of them at once.
+fn all_payload(block: &[u8]) -> bool
+    requires { ⌜ length (now block) ≡ 16 ⌝ }
+    ensures { λ r. ⌜ r ≡ every isPayloadByte (now (block .entry)) ⌝ }
+{
+    let mut good = true;
+    let mut i = 0;
+    while i < 16 {
+        good = good & payload_byte(block[i]);
+        i += 1;
+    }
+    good
+}
+
+// How many payload bytes the bytes begin with, byte by byte.
+fn run_by_bytes(p: &[u8]) -> usize
+    ensures { λ r. ⌜ r ≡ length (payloadRun (now (p .entry))) ⌝ }
+{
+    let mut n = 0;
+    while n < p.len() {
+        if !payload_byte(p[n]) {
+            return n;
+        }
+        n += 1;
+    }
+    n
+}
+
+// The same by blocks of 16, as long as there is one that is all payload bytes.
+fn run_by_blocks(p: &[u8]) -> usize
+    ensures { λ r. ⌜ r ≡ length (payloadRun (now (p .entry))) ⌝ }
+{
+    let mut n = 0;
+    while 16 <= p.len() - n {
+        if !all_payload(&p[n..n + 16]) {
+            break;
+        }
+        n += 16;
+    }
+    n + run_by_bytes(&p[n..])
+}
+
+// How many payload bytes the bytes begin with, counted to 129.
+pub fn payload_bytes(p: &[u8]) -> usize
+    ensures { λ r. ⌜ r ≡ min (length (payloadRun (now (p .entry)))) 129 ⌝ }
+{
+    run_by_blocks(text(p, 0, 129))
+}
