@@ -43,6 +43,11 @@ fn layout(checks: &mut Checks, reader: &AmpReader) {
     );
 }
 
+/// Feeds the reader, with room for so many numbers of the row.
+fn feed(reader: &mut AmpReader, bytes: &[u8], row: &mut [i64; AMP_ROW], room: usize) -> u32 {
+    unsafe { amp_feed(reader, bytes.as_ptr(), bytes.len(), row.as_mut_ptr(), room) }
+}
+
 fn streams(checks: &mut Checks) {
     let mut reader = AmpReader {
         family: 9,
@@ -56,28 +61,12 @@ fn streams(checks: &mut Checks) {
     layout(checks, &reader);
     checks.check(unsafe { amp_fresh(&mut reader, 2) } == 0, "fresh");
     let before = reader;
-    let number = unsafe {
-        amp_feed(
-            &mut reader,
-            CASE_7.as_ptr(),
-            CASE_7.len(),
-            row.as_mut_ptr(),
-            AMP_VALUES,
-        )
-    };
+    let number = feed(&mut reader, CASE_7, &mut row, AMP_VALUES);
     checks.check(
         number == AMP_NO_ROOM && reader == before && row == [-77; AMP_ROW],
         "no room",
     );
-    let number = unsafe {
-        amp_feed(
-            &mut reader,
-            CASE_7.as_ptr(),
-            CASE_7.len(),
-            row.as_mut_ptr(),
-            AMP_ROW,
-        )
-    };
+    let number = feed(&mut reader, CASE_7, &mut row, AMP_ROW);
     checks.check(number == 0, "feed");
     checks.check(
         row[..AMP_VALUES] == [AMP_SENTENCE as i64, 5, 32, 0, 0, 32],
@@ -91,7 +80,7 @@ fn streams(checks: &mut Checks) {
         unsafe { amp_close(&mut reader) } == 0 && reader.closed == 1,
         "close",
     );
-    let number = unsafe { amp_feed(&mut reader, CASE_7.as_ptr(), 1, row.as_mut_ptr(), AMP_ROW) };
+    let number = feed(&mut reader, &CASE_7[..1], &mut row, AMP_ROW);
     checks.check(number == AMP_CLOSED, "closed");
 }
 

@@ -5,8 +5,8 @@ ghost use Prim.Native.Nat.{_%_, _^_};
 ghost use Rattle.rules.specs.Bytes.{oneOf, same, part, PartOf, total};
 ghost use Rattle.leaves.specs.Leaves.{placeIn};
 
-// The n bytes from place a on, or what there is of them, as a part of the lent bytes. Where there is
-// none it is their empty front.
+// The n bytes from place a on, or what there is of them, as a part of the lent bytes. Where no byte
+// stands at a it is their empty front.
 pub fn text(s: &[u8], a: usize, n: usize) -> &[u8]
     ensures { λ r. ⌜ PartOf (s .entry) (placeIn a (now (s .entry))) (part a n (now (s .entry))) r ⌝ }
 {

@@ -16,7 +16,7 @@ ghost use Prim.Native.Nat.{_+_, _≤_};
 ghost use Rattle.rules.specs.Answers.{said, statusNumbers, numbers05, values};
 ghost use Rattle.rules.specs.Sentences.{numbers02, numbers03};
 ghost use Rattle.stream_rules.specs.Streams.{saidToFeed};
-ghost use Rattle.rows.specs.Rows.{frameKind, frameCode, whole, head, rowWithout, rowFed, rowRead, front, laidAt, LaysRow, Lays};
+ghost use Rattle.rows.specs.Rows.{frameKind, frameCode, whole, head, rowWithout, rowFed, rowRead, laidAt, LaysRow, Lays};
 
 // The numbers from a place on.
 fn put_numbers(numbers: &mut [i64], at: usize, what: &[u32])

@@ -8,7 +8,7 @@ use Prim.Native.Char.{code}
 use native.Mathlib.Decide.{ℕ-discrete}
 use borrow.Author.Count.{below-none}
 use borrow.Author.Tests.{ne-eqb}
-use lib.Dec.{eqb, lit<}
+use lib.Dec.{lit<}
 use native.Mathlib.Nat.{add-zero}
 use native.Mathlib.Omega.{arith}
 use lib.ListN.{length, drop, getD, length-drop}

@@ -1,7 +1,7 @@
 -- `amp::amp_next` meets its contract: what is found for the byte is what is found for the family, and a size other than 0 is
 -- that of a frame.
 -- Assumes nothing.
-use mathlib.Core.Path.{_≡_, ap, _∙_}
+use mathlib.Core.Path.{ap, _∙_}
 use borrow.Author.Tests.{eq-eqb, ne-eqb}
 use Rattle.finds.specs.declared.Span.{Span}
 use Rattle.amp.proofs.Families.{next-byte}

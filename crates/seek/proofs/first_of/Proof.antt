@@ -1,7 +1,7 @@
 -- `seek::first_of` meets its contract: its test is that of the definition.
 -- Assumes nothing.
 use Prim.Native.Char.{code}
-use mathlib.Core.Path.{_≡_, sym, ap, _∙_}
+use mathlib.Core.Path.{sym, ap, _∙_}
 use mathlib.Core.Bool.{Bool, cond}
 use borrow.Author.Needs.{needs}
 use borrow.Author.Tests.{eq-eqb}

@@ -1,7 +1,7 @@
 -- `lister::steps::sentence_size` meets its contract: the payload declares a length, and as many bytes are a good frame or none.
 -- Assumes nothing.
 use Prim.Native.Nat.{ℕ, _+_, min, _<_, _≤_}
-use mathlib.Core.Path.{_≡_, refl, sym, ap, _∙_}
+use mathlib.Core.Path.{_≡_, sym, ap, _∙_}
 use mathlib.Core.List.{List}
 use native.Mathlib.Omega.{arith}
 use borrow.Author.Needs.{needs}
