@@ -33,28 +33,30 @@ static double now(void)
 
 /* ---- What is measured ----------------------------------------------------------------------- */
 
+typedef uint32_t lister(uint32_t family, const uint8_t *s, size_t n, uint32_t *starts, size_t places,
+                        size_t *count);
+
 /* Each takes one capture in pieces of a size and gives the number of frames. For a lister a piece is a
  * capture of its own; for the stream it is what one call offers. */
-static size_t by_proved(unsigned family, const unsigned char *s, size_t piece)
+static size_t by_lister(lister *list, unsigned family, const unsigned char *s, size_t piece)
 {
     size_t at, count = 0, frames = 0;
 
     for (at = 0; at < LENGTH; at += piece) {
-        amp_list(family, s + at, piece, starts, LENGTH, &count);
+        list(family, s + at, piece, starts, LENGTH, &count);
         frames += count;
     }
     return frames;
 }
 
+static size_t by_proved(unsigned family, const unsigned char *s, size_t piece)
+{
+    return by_lister(amp_list, family, s, piece);
+}
+
 static size_t by_plain(unsigned family, const unsigned char *s, size_t piece)
 {
-    size_t at, count = 0, frames = 0;
-
-    for (at = 0; at < LENGTH; at += piece) {
-        plain_list(family, s + at, piece, starts, LENGTH, &count);
-        frames += count;
-    }
-    return frames;
+    return by_lister(plain_list, family, s, piece);
 }
 
 /* Offers n bytes until the reader wants others; notes the starts behind those that are there. */
