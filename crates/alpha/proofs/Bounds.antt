@@ -13,7 +13,7 @@ use Rattle.rules.specs.Status.{cut}
 use Rattle.rules.specs.Sentences.{commas}
 use Rattle.laws.proofs.Bytes.{both, both-pass, between-bounds}
 use Rattle.leaves.proofs.Steps.{at as from-place}
-use Rattle.alpha.specs.Bounds.{inBounds}
+use Rattle.leaves.specs.Leaves.{inBounds}
 
 -- what has one bound only stands there
 exact : (name l m bs : List ℕ) → length name ≤ length bs → inBounds (name ++ l) (name ++ m) bs ≡ true
@@ -62,7 +62,9 @@ row x y (w ∷ ws) l m a p h e =
     let f = both (between 44 44 (getD p a 0)) _ (rw here at e) in
     let one = between-bounds 44 44 (getD p a 0) (f .0) in
     let comma : getD p a 0 ≡ 44 = omega arith in
-    let t = both (every (between x y) text) _ (sym (run x y w (rowOf x ws ++ l) (rowOf y ws ++ m) (drop (a + 1) p)) ∙ (simp append-assoc at (f .1))) in
+    let bounds =
+        ap₂ (λ (u v : List ℕ). inBounds u v (drop (a + 1) p)) (append-assoc (replicate w x) (rowOf x ws) l) (append-assoc (replicate w y) (rowOf y ws) m) in
+    let t = both (every (between x y) text) _ (sym (run x y w (rowOf x ws ++ l) (rowOf y ws ++ m) (drop (a + 1) p)) ∙ sym bounds ∙ f .1) in
     let behind = row x y ws l m (a + 1 + w) p (omega arith) (rw drop-drop at (t .1)) in
     record {
       whole =

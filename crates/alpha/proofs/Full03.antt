@@ -17,7 +17,7 @@ use Rattle.laws.proofs.Lists.{elements, last}
 use Rattle.laws.proofs.Sentences.{isTextByte, digits-text, payload}
 use Rattle.laws.proofs.SentenceFields.{fields-fit, temperature-bound}
 use Rattle.alpha.specs.Fields.{Text}
-use Rattle.alpha.specs.Bounds.{inBounds}
+use Rattle.leaves.specs.Leaves.{inBounds}
 use Rattle.alpha.specs.Payloads.{isGoodPayload}
 use Rattle.alpha.proofs.Rows.{each}
 use Rattle.alpha.proofs.Payloads.{as03}

@@ -17,8 +17,8 @@ use Rattle.laws.proofs.Fields.{cut-widths}
 use Rattle.laws.proofs.Sentences.{payload}
 use Rattle.laws.proofs.SentenceFields.{hexes-text}
 use Rattle.alpha.specs.Fields.{Text}
-use Rattle.alpha.specs.Bounds.{inBounds, outsideGap}
-use Rattle.alpha.specs.Payloads.{isGoodPayload}
+use Rattle.leaves.specs.Leaves.{inBounds}
+use Rattle.alpha.specs.Payloads.{isGoodPayload, outsideGap}
 use Rattle.alpha.proofs.Payloads.{as05}
 use Rattle.alpha.proofs.Bounds.{rowOf, Formed, formed}
 use Rattle.alpha.proofs.FullWidth.{known}

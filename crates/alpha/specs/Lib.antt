@@ -3,4 +3,3 @@ pub mod Fields
 pub mod Values
 pub mod Held
 pub mod Payloads
-pub mod Bounds

@@ -1,7 +1,9 @@
 -- The tests of a payload, in three parts: how it begins, what takes a pass over all of it, and its fields.
 use Prim.Native.Nat.{ℕ}
-use mathlib.Core.Bool.{Bool, _&&_}
+use Prim.Native.Char.{code}
+use mathlib.Core.Bool.{Bool, _&&_, _||_}
 use mathlib.Core.List.{List}
+use lib.Dec.{leb}
 use lib.ListN.{take, drop}
 use Rattle.rules.specs.Bytes.{ascii, same, part, every}
 use Rattle.rules.specs.Numbers.{isDigit}
@@ -19,3 +21,7 @@ isChecked check p = every isPayloadByte p && gives check p
 -- its texts keep the rules of its number
 abbrev pub isGoodPayload : List ℕ → Bool
 isGoodPayload p = isGood (readTexts (numberOf p) (textsOf p))
+
+-- b does not stand between the digits and the letters
+abbrev pub outsideGap : ℕ → Bool
+outsideGap b = leb b (code "9") || leb (code "A") b

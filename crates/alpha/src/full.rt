@@ -1,12 +1,12 @@
 // Payloads at full width, each field with as many bytes as the writer gives it: one pass over bounds
 // tells that they are good. The temperature `-000.0` is at full width too, though the writer never
 // writes it. Of any other payload nothing is said here.
+use leaves::within;
 ghost use mathlib.Core.Path.{_≡_};
 ghost use mathlib.Core.Bool.{true};
 ghost use lib.ListN.{length};
 ghost use Rattle.rules.specs.Bytes.{every};
-ghost use Rattle.alpha.specs.Bounds.{inBounds, outsideGap};
-ghost use Rattle.alpha.specs.Payloads.{isGoodPayload};
+ghost use Rattle.alpha.specs.Payloads.{isGoodPayload, outsideGap};
 
 // True only of a good payload: of one at full width.
 pub(crate) fn is_full(p: &[u8]) -> bool
@@ -28,9 +28,9 @@ fn is_full02(p: &[u8]) -> bool
 {
     let grid = leaves::wide(p[35]) * 100 + leaves::wide(p[36]) * 10 + leaves::wide(p[37]);
     within(
-        p,
         b"APA02,00000,000,0000,0000,0000,000,000,000,0,0,00,0,00000",
         b"APA02,99999,999,9999,9999,9999,999,999,999,9,9,99,9,99999",
+        p,
     )
         & (grid <= 5583)
         & (p[43] != b'0')
@@ -44,9 +44,9 @@ fn is_full03(p: &[u8]) -> bool
     ensures { λ r. ⌜ (r ≡ true → isGoodPayload (now (p .entry)) ≡ true) ⌝ }
 {
     within(
-        p,
         b"APA03,000,000,000,000,000,0000,000,0,+000.0",
         b"APA03,999,999,999,999,999,9999,999,9,-999.9",
+        p,
     )
         & (p[35] != b'0')
         & (p[35] <= b'5')
@@ -59,9 +59,9 @@ fn is_full05(p: &[u8]) -> bool
     ensures { λ r. ⌜ (r ≡ true → isGoodPayload (now (p .entry)) ≡ true) ⌝ }
 {
     within(
-        p,
         b"APA05,00,00,00,00,00,00,00",
         b"APA05,FF,FF,FF,FF,FF,FF,FF",
+        p,
     )
         & no_gap(p)
 }
@@ -74,21 +74,6 @@ fn no_gap(p: &[u8]) -> bool
     let mut i = 0;
     while i < p.len() {
         good = good & ((p[i] <= b'9') | (b'A' <= p[i]));
-        i += 1;
-    }
-    good
-}
-
-// Whether each byte is from the least to the most for its place. The loop runs to the end, so that
-// many bytes are compared at once.
-fn within(d: &[u8], least: &[u8], most: &[u8]) -> bool
-    requires { ⌜ (length (now least) ≡ length (now d)) × (length (now most) ≡ length (now d)) ⌝ }
-    ensures { λ r. ⌜ r ≡ inBounds (now (least .entry)) (now (most .entry)) (now (d .entry)) ⌝ }
-{
-    let mut good = true;
-    let mut i = 0;
-    while i < d.len() {
-        good = good & (least[i] <= d[i]) & (d[i] <= most[i]);
         i += 1;
     }
     good

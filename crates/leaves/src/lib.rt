@@ -1,9 +1,9 @@
-// The leaves that the readers of all families stand on: a part of the bytes, letters, and
+// The leaves that the readers of all families stand on: a part of the bytes, letters, bounds, and
 // the sum of a packet. None asks anything of its caller.
 ghost use mathlib.Core.Path.{_≡_};
 ghost use Prim.Native.Nat.{_%_, _^_};
 ghost use Rattle.rules.specs.Bytes.{oneOf, same, part, PartOf, total};
-ghost use Rattle.leaves.specs.Leaves.{placeIn};
+ghost use Rattle.leaves.specs.Leaves.{placeIn, inBounds};
 
 // The n bytes from place a on, or what there is of them, as a part of the lent bytes. Where no byte
 // stands at a it is their empty front.
@@ -48,6 +48,26 @@ pub fn same_bytes(s: &[u8], t: &[u8]) -> bool
         i += 1;
     }
     true
+}
+
+// Whether each byte is from the least to the most for its place. The loop runs to the end, so that the
+// compiler compares many bytes at once.
+pub fn within(least: &[u8], most: &[u8], s: &[u8]) -> bool
+    ensures { λ r. ⌜ r ≡ inBounds (now (least .entry)) (now (most .entry)) (now (s .entry)) ⌝ }
+{
+    if least.len() < s.len() {
+        return false;
+    }
+    if most.len() < s.len() {
+        return false;
+    }
+    let mut good = true;
+    let mut i = 0;
+    while i < s.len() {
+        good = good & (least[i] <= s[i]) & (s[i] <= most[i]);
+        i += 1;
+    }
+    good
 }
 
 // A byte as a wider number.

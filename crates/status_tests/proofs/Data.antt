@@ -14,7 +14,8 @@ use Rattle.rules.specs.Numbers.{isDigit, decimal, padded, paddedNumber, pointed
 use Rattle.rules.specs.Status.{joined, cut, widths, field, readable, statusInRange, statusOf}
 use Rattle.laws.proofs.Bytes.{one-by-one, places, every-weaker, one-of-these}
 use Rattle.laws.proofs.Fields.{commasAt, commas-at}
-use Rattle.status_tests.specs.Tests.{allWithin, bandTo, noneAboveZero, limits20K, limits13K, allFollow, lettersGood, limitsGood}
+use Rattle.leaves.specs.Leaves.{inBounds}
+use Rattle.status_tests.specs.Tests.{bandTo, noneAboveZero, limits20K, limits13K, allFollow, lettersGood, limitsGood}
 use Rattle.status_tests.proofs.Texts.{alike, spacesFirst, input-text, band-text, id-text, first-tells, letter-text, bank-text, transmit-text, receive-text, number-text, point-text, warmth-text}
 use Rattle.status_tests.proofs.Bounds.{textsWithin, within-joined}
 
@@ -145,7 +146,7 @@ module _ (bytes : List ℕ) where
       ∷ []
 
   abbrev bytesOf : ℕ → Bool
-  bytesOf k = allWithin (getD leasts (k - 1) []) (getD mosts (k - 1) []) (field k d)
+  bytesOf k = inBounds (getD leasts (k - 1) []) (getD mosts (k - 1) []) (field k d)
 
   abbrev tests : Bool → List (List Bool)
   tests big =
@@ -243,7 +244,7 @@ module _ (d : List ℕ) (size : length d ≡ 67) where
 
   -- the rules of the data are the tests
   pub data-alike : (same d (joined (cut 0 widths d)) && readable d && statusInRange (statusOf d))
-      ≡ (allWithin (joined leasts) (joined mosts) d && lettersGood d && allFollow marks d && limitsGood d)
+      ≡ (inBounds (joined leasts) (joined mosts) d && lettersGood d && allFollow marks d && limitsGood d)
   unfolding total
   data-alike =
       let commas = commas-at 0 widths d size in

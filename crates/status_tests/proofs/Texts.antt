@@ -13,7 +13,8 @@ use Rattle.rules.specs.Bytes.{ascii, oneOf, between, every}
 use Rattle.rules.specs.Numbers.{isDigit, decimal, decimalFrom, padded, paddedNumber, pointed, pointedNumber}
 use Rattle.laws.proofs.Bytes.{either, answer, both, both-pass, one-of-these, every-split}
 use Rattle.laws.proofs.Numbers.{padded-below, pointed-below}
-use Rattle.status_tests.specs.Tests.{allWithin, follows, noneAboveZero}
+use Rattle.leaves.specs.Leaves.{inBounds}
+use Rattle.status_tests.specs.Tests.{follows, noneAboveZero}
 
 -- two tests that pass together are the same
 pub alike : (a b : Bool) → (a ≡ true → b ≡ true) → (b ≡ true → a ≡ true) → a ≡ b
@@ -42,8 +43,8 @@ only a b =
     (λ h. let k = simp parts at h in omega (arith, bounds))
 
 -- the digit of the input: 1 or 2
-pub input-text : (a : ℕ) → (isDigit a && between 1 2 (a - 48)) ≡ allWithin (ascii "1") (ascii "2") (a ∷ [])
-unfolding allWithin
+pub input-text : (a : ℕ) → (isDigit a && between 1 2 (a - 48)) ≡ inBounds (ascii "1") (ascii "2") (a ∷ [])
+unfolding inBounds
 input-text a =
     alike _ _
     (λ h. let k = simp parts at h in simp parts (omega (arith, bounds)))
@@ -63,8 +64,8 @@ antenna-text false a =
 -- the two digits of the band: to 10 for a 20K, and to 11 for a 13K
 module _ (a b limit : ℕ) (small : limit ≤ 57) (digit : 48 ≤ limit) where
   band-to : (every isDigit (a ∷ b ∷ []) && leb (decimal (a ∷ b ∷ [])) (limit - 38))
-      ≡ (allWithin (ascii "00") (ascii "19") (a ∷ b ∷ []) && (eqb a 48 || leb b limit))
-  unfolding every decimalFrom allWithin
+      ≡ (inBounds (ascii "00") (ascii "19") (a ∷ b ∷ []) && (eqb a 48 || leb b limit))
+  unfolding every decimalFrom inBounds
   band-to =
       alike _ _
       (λ h.
@@ -79,7 +80,7 @@ module _ (a b limit : ℕ) (small : limit ≤ 57) (digit : 48 ≤ limit) where
 
 pub band-text : (big : Bool) (a b : ℕ)
     → (every isDigit (a ∷ b ∷ []) && leb (decimal (a ∷ b ∷ [])) (cond big 10 11))
-    ≡ (allWithin (ascii "00") (ascii "19") (a ∷ b ∷ []) && cond big (eqb a 48 || leb b 48) (eqb a 48 || leb b 49))
+    ≡ (inBounds (ascii "00") (ascii "19") (a ∷ b ∷ []) && cond big (eqb a 48 || leb b 48) (eqb a 48 || leb b 49))
 band-text true a b = band-to a b 48 (omega arith) (omega arith)
 band-text false a b = band-to a b 49 (omega arith) (omega arith)
 
@@ -89,8 +90,8 @@ module _ (a b c : ℕ) where
   second = cond (eqb a 50) (eqb b 48) (eqb b 51)
 
   id-forth : (every isDigit (a ∷ b ∷ []) && eqb c 75 && oneOf (20 ∷ 13 ∷ []) (decimal (a ∷ b ∷ []))) ≡ true
-      → (allWithin (ascii "10K") (ascii "23K") (a ∷ b ∷ c ∷ []) && second) ≡ true
-  unfolding every decimalFrom allWithin oneOf
+      → (inBounds (ascii "10K") (ascii "23K") (a ∷ b ∷ c ∷ []) && second) ≡ true
+  unfolding every decimalFrom inBounds oneOf
   id-forth h =
       let k = simp parts at h in
       let n = decimal (a ∷ b ∷ []) in
@@ -101,9 +102,9 @@ module _ (a b c : ℕ) where
       simp (parts, ne-eqb a 50 (omega (arith, bounds))) (omega (arith, bounds)))
       (either (eqb n 20) (eqb n 13 || false) (k .1))
 
-  id-back : (allWithin (ascii "10K") (ascii "23K") (a ∷ b ∷ c ∷ []) && second) ≡ true
+  id-back : (inBounds (ascii "10K") (ascii "23K") (a ∷ b ∷ c ∷ []) && second) ≡ true
       → (every isDigit (a ∷ b ∷ []) && eqb c 75 && oneOf (20 ∷ 13 ∷ []) (decimal (a ∷ b ∷ []))) ≡ true
-  unfolding every decimalFrom allWithin oneOf
+  unfolding every decimalFrom inBounds oneOf
   id-back h =
       let k = simp parts at h in
       let n = decimal (a ∷ b ∷ []) in
@@ -118,13 +119,13 @@ module _ (a b c : ℕ) where
       (answer (eqb a 50))
 
   pub id-text : (every isDigit (a ∷ b ∷ []) && eqb c 75 && oneOf (20 ∷ 13 ∷ []) (decimal (a ∷ b ∷ [])))
-      ≡ (allWithin (ascii "10K") (ascii "23K") (a ∷ b ∷ c ∷ []) && second)
+      ≡ (inBounds (ascii "10K") (ascii "23K") (a ∷ b ∷ c ∷ []) && second)
   id-text = alike _ _ id-forth id-back
 
   -- its first digit tells which it is
-  pub first-tells : (allWithin (ascii "10K") (ascii "23K") (a ∷ b ∷ c ∷ []) && second) ≡ true
+  pub first-tells : (inBounds (ascii "10K") (ascii "23K") (a ∷ b ∷ c ∷ []) && second) ≡ true
       → eqb (decimal (a ∷ b ∷ [])) 20 ≡ eqb a 50
-  unfolding decimalFrom allWithin
+  unfolding decimalFrom inBounds
   first-tells h =
       let k = simp parts at h in
       alike _ _
@@ -142,8 +143,8 @@ one-of-three a b c e = simp (or-assoc, or-false)
 
 -- a letter of some between two others
 pub letter-text : (letters : List ℕ) (low high a : ℕ) → every (between low high) letters ≡ true
-    → oneOf letters a ≡ (allWithin (low ∷ []) (high ∷ []) (a ∷ []) && oneOf letters a)
-unfolding allWithin
+    → oneOf letters a ≡ (inBounds (low ∷ []) (high ∷ []) (a ∷ []) && oneOf letters a)
+unfolding inBounds
 letter-text letters low high a all =
     alike _ _
     (λ h. simp parts (simp and-eq-true-iff at (one-of-these (between low high) letters a all h), h))
@@ -152,7 +153,7 @@ letter-text letters low high a all =
 -- the bank: x for a 20K, A or B for a 13K
 pub bank-text : (big : Bool) (a : ℕ)
     → oneOf (cond big (ascii "x") (ascii "AB")) a
-    ≡ (allWithin (ascii "A") (ascii "x") (a ∷ []) && cond big (oneOf (ascii "x") a) (oneOf (ascii "AB") a))
+    ≡ (inBounds (ascii "A") (ascii "x") (a ∷ []) && cond big (oneOf (ascii "x") a) (oneOf (ascii "AB") a))
 unfolding every
 bank-text true a = letter-text (ascii "x") 65 120 a refl
 bank-text false a = letter-text (ascii "AB") 65 120 a refl
@@ -160,8 +161,8 @@ bank-text false a = letter-text (ascii "AB") 65 120 a refl
 -- the antenna to transmit with, and the tuner
 pub transmit-text : (big : Bool) (a b : ℕ)
     → (isDigit a && leb (a - 48) (cond big 6 4) && oneOf (ascii "tba") b)
-    ≡ (allWithin (ascii "0a") (ascii "6t") (a ∷ b ∷ []) && oneOf (ascii "tba") b && cond big true (leb a 52))
-unfolding every allWithin
+    ≡ (inBounds (ascii "0a") (ascii "6t") (a ∷ b ∷ []) && oneOf (ascii "tba") b && cond big true (leb a 52))
+unfolding every inBounds
 transmit-text big a b =
     (λ i. antenna-text big a i && letter-text (ascii "tba") 97 116 b refl i)
     ∙ alike _ _
@@ -171,8 +172,8 @@ transmit-text big a b =
 -- the antenna to receive with, and r
 pub receive-text : (big : Bool) (a b : ℕ)
     → (isDigit a && eqb b 114 && leb (a - 48) (cond big 6 4))
-    ≡ (allWithin (ascii "0r") (ascii "6r") (a ∷ b ∷ []) && cond big true (leb a 52))
-unfolding allWithin
+    ≡ (inBounds (ascii "0r") (ascii "6r") (a ∷ b ∷ []) && cond big true (leb a 52))
+unfolding inBounds
 receive-text big a b =
     last-first (isDigit a) (eqb b 114) (leb (a - 48) (cond big 6 4))
     ∙ (λ i. antenna-text big a i && only b 114 i)
@@ -181,8 +182,8 @@ receive-text big a b =
     (λ h. let k = simp parts at h in simp parts (search))
 
 -- a row of digits
-pub digits-text : (t : List ℕ) → every isDigit t ≡ allWithin (replicate (length t) 48) (replicate (length t) 57) t
-unfolding every allWithin
+pub digits-text : (t : List ℕ) → every isDigit t ≡ inBounds (replicate (length t) 48) (replicate (length t) 57) t
+unfolding every inBounds
 digits-text [] = refl
 digits-text (b ∷ bs) = ap (λ x. isDigit b && x) (digits-text bs)
 
@@ -219,8 +220,8 @@ behind-digit b c cs w s e =
     (sym (no-space c cs (k .1 .0 .1)) ∙ e ∙ both-pass w s (k .0 .1) (k .1 .1)))
 
 pub padded-text : (b : ℕ) (bs : List ℕ)
-    → padded (b ∷ bs) ≡ (allWithin (lows (length bs)) (replicate (suc (length bs)) 57) (b ∷ bs) && spacesFirst (b ∷ bs))
-unfolding padded every allWithin spacesFirst
+    → padded (b ∷ bs) ≡ (inBounds (lows (length bs)) (replicate (suc (length bs)) 57) (b ∷ bs) && spacesFirst (b ∷ bs))
+unfolding padded every inBounds spacesFirst
 padded-text b [] =
     ⊎-elim
     (λ (e : eqb b 32 ≡ true). rw (eqb-true b 32 e))
@@ -235,8 +236,8 @@ padded-text b (c ∷ cs) =
 -- with a point behind two bytes, and digits behind it
 pub pointed-text : (a b c : ℕ) (ds : List ℕ)
     → pointed 2 (a ∷ b ∷ c ∷ ds)
-    ≡ (allWithin (32 ∷ 48 ∷ 46 ∷ replicate (length ds) 48) (57 ∷ 57 ∷ 46 ∷ replicate (length ds) 57) (a ∷ b ∷ c ∷ ds) && spacesFirst (a ∷ b ∷ []))
-unfolding pointed allWithin spacesFirst
+    ≡ (inBounds (32 ∷ 48 ∷ 46 ∷ replicate (length ds) 48) (57 ∷ 57 ∷ 46 ∷ replicate (length ds) 57) (a ∷ b ∷ c ∷ ds) && spacesFirst (a ∷ b ∷ []))
+unfolding pointed inBounds spacesFirst
 pointed-text a b c ds =
     (λ i. padded-text a (b ∷ []) i && only c 46 i && digits-text ds i)
     ∙ alike _ _
@@ -250,13 +251,13 @@ within-width false b n limit small e = e
 
 pub number-text : (b : ℕ) (bs : List ℕ) (limit : ℕ) → 10 ^ suc (length bs) ≤ suc limit
     → (padded (b ∷ bs) && leb (paddedNumber (b ∷ bs)) limit)
-    ≡ (allWithin (lows (length bs)) (replicate (suc (length bs)) 57) (b ∷ bs) && spacesFirst (b ∷ bs))
+    ≡ (inBounds (lows (length bs)) (replicate (suc (length bs)) 57) (b ∷ bs) && spacesFirst (b ∷ bs))
 number-text b bs limit room =
     within-width _ _ (paddedNumber (b ∷ bs)) limit (λ e. omega (arith, padded-below (b ∷ bs) e)) (padded-text b bs)
 
 pub point-text : (a b c : ℕ) (ds : List ℕ) (limit : ℕ) → 10 ^ (2 + length ds) ≤ suc limit
     → (pointed 2 (a ∷ b ∷ c ∷ ds) && leb (pointedNumber 2 (a ∷ b ∷ c ∷ ds)) limit)
-    ≡ (allWithin (32 ∷ 48 ∷ 46 ∷ replicate (length ds) 48) (57 ∷ 57 ∷ 46 ∷ replicate (length ds) 57) (a ∷ b ∷ c ∷ ds) && spacesFirst (a ∷ b ∷ []))
+    ≡ (inBounds (32 ∷ 48 ∷ 46 ∷ replicate (length ds) 48) (57 ∷ 57 ∷ 46 ∷ replicate (length ds) 57) (a ∷ b ∷ c ∷ ds) && spacesFirst (a ∷ b ∷ []))
 point-text a b c ds limit room =
     within-width _ _ (pointedNumber 2 (a ∷ b ∷ c ∷ ds)) limit
     (λ e. omega (arith, pointed-below 2 (length ds) (a ∷ b ∷ c ∷ ds) (omega arith) e))
@@ -289,6 +290,6 @@ zero-text (b ∷ bs) =
 -- the second and third temperature: zero for a 13K
 pub warmth-text : (big : Bool) (a b c : ℕ)
     → (padded (a ∷ b ∷ c ∷ []) && leb (paddedNumber (a ∷ b ∷ c ∷ [])) (cond big 999 0))
-    ≡ (allWithin (lows 2) (ascii "999") (a ∷ b ∷ c ∷ []) && spacesFirst (a ∷ b ∷ c ∷ []) && cond big true (noneAboveZero (a ∷ b ∷ c ∷ [])))
+    ≡ (inBounds (lows 2) (ascii "999") (a ∷ b ∷ c ∷ []) && spacesFirst (a ∷ b ∷ c ∷ []) && cond big true (noneAboveZero (a ∷ b ∷ c ∷ [])))
 warmth-text true a b c = number-text a (b ∷ c ∷ []) 999 (omega arith) ∙ sym (and-true _)
 warmth-text false a b c = λ i. padded-text a (b ∷ c ∷ []) i && zero-text (a ∷ b ∷ c ∷ []) i

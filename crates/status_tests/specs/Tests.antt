@@ -8,13 +8,6 @@ use lib.ListN.{getD}
 use Rattle.rules.specs.Bytes.{ascii, oneOf, between, every, first, same}
 use Rattle.rules.specs.Status.{field, joined, cut, widths, readable, statusInRange, statusOf}
 
--- each byte is from its least to its most
-unfoldable pub allWithin : List ℕ → List ℕ → List ℕ → Bool
-allWithin [] most bs = true
-allWithin (a ∷ least) [] bs = true
-allWithin (a ∷ least) (z ∷ most) [] = true
-allWithin (a ∷ least) (z ∷ most) (b ∷ bs) = between a z b && allWithin least most bs
-
 -- b may stand behind a in a padded number: a space only behind a space
 abbrev pub follows : ℕ → ℕ → Bool
 follows a b = eqb a (code " ") || leb (code "0") a && leb (code "0") b

@@ -4,11 +4,12 @@
 use leaves::sum;
 use leaves::text;
 use leaves::wide;
+use leaves::within;
 ghost use mathlib.Core.Path.{_≡_};
 ghost use lib.ListN.{length};
 ghost use Rattle.rules.specs.Bytes.{ascii, oneOf, same};
 ghost use Rattle.rules.specs.Status.{statusFrame, dataOf, isStatus};
-ghost use Rattle.status_tests.specs.Tests.{allWithin, allFollow, lettersGood, limitsGood, dataGood};
+ghost use Rattle.status_tests.specs.Tests.{allFollow, lettersGood, limitsGood, dataGood};
 
 // Whether the bytes are a report's frame around their own data: marks, count, sums, 0D 0A.
 pub fn is_report(s: &[u8]) -> bool
@@ -25,20 +26,6 @@ pub fn is_report(s: &[u8]) -> bool
     }
     let sum = sum(text(s, 4, 67));
     (wide(s[71]) == sum % 256) & (wide(s[72]) == sum / 256)
-}
-
-// Whether each byte of a report's data is from its least to its most.
-fn within(least: &[u8], most: &[u8], d: &[u8]) -> bool
-    requires { ⌜ (length (now least) ≡ 67) × (length (now most) ≡ 67) × (length (now d) ≡ 67) ⌝ }
-    ensures { λ r. ⌜ r ≡ allWithin (now (least .entry)) (now (most .entry)) (now (d .entry)) ⌝ }
-{
-    let mut good = true;
-    let mut i = 0;
-    while i < 67 {
-        good = good & (least[i] <= d[i]) & (d[i] <= most[i]);
-        i += 1;
-    }
-    good
 }
 
 // Whether the padded numbers have their spaces in front: the byte behind a marked place may follow the

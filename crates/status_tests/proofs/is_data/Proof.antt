@@ -8,13 +8,14 @@ use borrow.Author.Needs.{needs}
 use borrow.Author.Tests.{not-true, not-false}
 use lib.ListN.{length}
 use Rattle.rules.specs.Status.{joined}
-use Rattle.status_tests.specs.Tests.{allWithin, allFollow, lettersGood, limitsGood, dataGood}
+use Rattle.leaves.specs.Leaves.{inBounds}
+use Rattle.status_tests.specs.Tests.{allFollow, lettersGood, limitsGood, dataGood}
 use Rattle.status_tests.proofs.Data.{leasts, mosts, marks, data-alike}
 use Rattle.status_tests.proofs.is_data.Statement.{statement}
 use Rattle.status_tests.proofs.is_data.Tie as tie
 
 -- the tests in their order, from that of the bounds on
-is-bounded : (d : List ℕ) (b : Bool) → length d ≡ 67 → allWithin (joined leasts) (joined mosts) d ≡ b
+is-bounded : (d : List ℕ) (b : Bool) → length d ≡ 67 → inBounds (joined leasts) (joined mosts) d ≡ b
     → dataGood d ≡ (b && lettersGood d && allFollow marks d && limitsGood d)
 unfolding dataGood
 is-bounded d b size e = data-alike d size ∙ ap (λ x. x && lettersGood d && allFollow marks d && limitsGood d) e
@@ -24,12 +25,12 @@ module _ (w : tie.After-within) where
   abbrev start : tie.Start
   start = w .before .before .before .before .before .before .before
 
-  bounds-are : w .within .result ≡ allWithin (joined leasts) (joined mosts) (start .args .d .now)
+  bounds-are : w .within .result ≡ inBounds (joined leasts) (joined mosts) (start .args .d .now)
   unfolding joined
   bounds-are = w .within .ensures
 
 within-requires : tie.Need-within-requires
-within-requires c κs = (refl, refl, search needs)
+within-requires c κs = search needs
 
 returns : tie.Need-returns
 returns c =
