@@ -63,7 +63,7 @@ row x y (w ∷ ws) l m a p h e =
     let one = between-bounds 44 44 (getD p a 0) (f .0) in
     let comma : getD p a 0 ≡ 44 = omega arith in
     let bounds =
-        ap₂ (λ (u v : List ℕ). inBounds u v (drop (a + 1) p)) (append-assoc (replicate w x) (rowOf x ws) l) (append-assoc (replicate w y) (rowOf y ws) m) in
+    ap₂ (λ (u v : List ℕ). inBounds u v (drop (a + 1) p)) (append-assoc (replicate w x) (rowOf x ws) l) (append-assoc (replicate w y) (rowOf y ws) m) in
     let t = both (every (between x y) text) _ (sym (run x y w (rowOf x ws ++ l) (rowOf y ws ++ m) (drop (a + 1) p)) ∙ sym bounds ∙ f .1) in
     let behind = row x y ws l m (a + 1 + w) p (omega arith) (rw drop-drop at (t .1)) in
     record {

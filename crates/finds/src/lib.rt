@@ -1,6 +1,6 @@
 // What a capture reader gives next, on a slice and a number: the earliest frame from a place on, or,
 // when only reports are wanted, the first status report among the frames from there on.
-use leaves::one_of;
+use leaves::is_family;
 use rules::Frame;
 use seek::First;
 use seek::first_good;
@@ -25,7 +25,7 @@ pub fn find(family: u8, capture: &[u8], place: usize, reports: bool) -> Span
         size: 0,
         behind: place,
     };
-    if !one_of(b"\x01\x02\x03", family) {
+    if !is_family(family) {
         return none;
     }
     if 65536 < capture.len() {

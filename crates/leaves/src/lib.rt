@@ -1,8 +1,9 @@
-// The leaves that the readers of all families stand on: a part of the bytes, letters, bounds, and
-// the sum of a packet. None asks anything of its caller.
+// The leaves that the readers of all families stand on: the number of a family, a part of the bytes, letters,
+// bounds, and the sum of a packet. None asks anything of its caller.
 ghost use mathlib.Core.Path.{_≡_};
-ghost use Prim.Native.Nat.{_%_, _^_};
+ghost use Prim.Native.Nat.{_%_, _^_, max};
 ghost use Rattle.rules.specs.Bytes.{oneOf, same, part, PartOf, total};
+ghost use Rattle.rules.specs.Answers.{isFamily};
 ghost use Rattle.leaves.specs.Leaves.{placeIn, inBounds};
 
 // The n bytes from place a on, or what there is of them, as a part of the lent bytes. Where no byte
@@ -31,6 +32,20 @@ pub fn one_of(letters: &[u8], b: u8) -> bool
         i += 1;
     }
     false
+}
+
+// Whether the number is that of a family.
+pub fn is_family(family: u8) -> bool
+    ensures { λ r. ⌜ r ≡ isFamily family ⌝ }
+{
+    one_of(b"\x01\x02\x03", family)
+}
+
+// The further of two places.
+pub fn further(a: usize, b: usize) -> usize
+    ensures { λ r. ⌜ r ≡ max a b ⌝ }
+{
+    if a < b { b } else { a }
 }
 
 // Whether two texts are the same bytes.

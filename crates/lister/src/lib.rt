@@ -1,7 +1,7 @@
 // The lister: the starts of all frames in a capture, and the earliest frame from a place on.
 mod steps;
 
-use leaves::one_of;
+use leaves::is_family;
 use leaves::text;
 use seek::First;
 use seek::first_good;
@@ -102,7 +102,7 @@ fn count_frames(family: u8, capture: &[u8]) -> usize
 pub fn list_frames(family: u8, capture: &[u8], starts: &mut [u32]) -> Listed
     ensures { λ r. ⌜ Lists family (now (capture .entry)) (now (starts .entry)) r (now (starts .exit)) ⌝ }
 {
-    if !one_of(b"\x01\x02\x03", family) {
+    if !is_family(family) {
         return Listed::Refused(1);
     }
     if 65536 < capture.len() {
@@ -122,7 +122,7 @@ pub fn list_frames(family: u8, capture: &[u8], starts: &mut [u32]) -> Listed
 pub fn next_frame(family: u8, capture: &[u8], place: usize) -> &[u8]
     ensures { λ r. ⌜ NextFrame family (capture .entry) place r ⌝ }
 {
-    if !one_of(b"\x01\x02\x03", family) {
+    if !is_family(family) {
         return &capture[..0];
     }
     if 65536 < capture.len() {

@@ -2,10 +2,10 @@
 // start is examined once.
 use heads::Seen;
 use heads::examine;
+use leaves::further;
 use rules::Frame;
 use starts::mark_of;
 ghost use mathlib.Core.Path.{_≡_};
-ghost use Prim.Native.Nat.{max};
 ghost use Rattle.seek.specs.Sought.{firstOf, soughtIn, firstFrom};
 
 // A good frame whose earlier starts are all bad: its place, its length, how far the bytes reach that
@@ -27,12 +27,6 @@ pub enum Sought {
 pub enum First {
     At(usize, usize, Frame),
     Nothing,
-}
-
-fn further(a: usize, b: usize) -> usize
-    ensures { λ r. ⌜ r ≡ max a b ⌝ }
-{
-    if a < b { b } else { a }
 }
 
 // The byte that every frame of a family starts with.

@@ -2,7 +2,7 @@
 // comes back by value; on a refusal it comes back as it was.
 mod pieces;
 
-use leaves::one_of;
+use leaves::is_family;
 use leaves::text;
 use pieces::Got;
 use pieces::Step;
@@ -136,7 +136,7 @@ fn drain(r: Reader) -> Fed
 pub fn feed(r: Reader, offered: &[u8]) -> Fed
     ensures { λ f. ⌜ Feeds r (now (offered .entry)) f ⌝ }
 {
-    if !one_of(b"\x01\x02\x03", r.family) {
+    if !is_family(r.family) {
         return Fed {
             reader: r,
             answer: Answer::Refused(1),
@@ -166,7 +166,7 @@ pub fn feed(r: Reader, offered: &[u8]) -> Fed
 pub fn close(r: Reader) -> Turned
     ensures { λ t. ⌜ Shuts r t ⌝ }
 {
-    if !one_of(b"\x01\x02\x03", r.family) {
+    if !is_family(r.family) {
         return Turned {
             reader: r,
             outcome: Outcome::Refused(1),
@@ -200,7 +200,7 @@ pub fn fresh_reader(family: u8) -> Turned
     ensures { λ t. ⌜ Makes family t ⌝ }
 {
     let held = [0u8; 133];
-    if !one_of(b"\x01\x02\x03", family) {
+    if !is_family(family) {
         let none = Reader {
             family: 0,
             closed: 0,

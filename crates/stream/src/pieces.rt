@@ -1,5 +1,6 @@
 // A call on all that is offered. Its bytes are searched where they stand, as a whole; only what is held
 // is joined first, in a buffer, with the next bytes offered.
+use leaves::further;
 use leaves::text;
 use pens::put_bytes;
 use rules::Frame;
@@ -8,7 +9,7 @@ use seek::Sought;
 use seek::seek;
 ghost use mathlib.Core.Path.{_≡_};
 ghost use mathlib.Core.List.{[]};
-ghost use Prim.Native.Nat.{max, _+_, _-_, _^_, _≤_, _<_};
+ghost use Prim.Native.Nat.{_+_, _-_, _^_, _≤_, _<_};
 ghost use lib.ListN.{length};
 ghost use Rattle.rules.specs.Bytes.{part};
 ghost use Rattle.stream_rules.specs.Heads.{longest, head};
@@ -60,12 +61,6 @@ pub(crate) fn longest_frame(family: u8) -> usize
         return 134;
     }
     6
-}
-
-fn further(a: usize, b: usize) -> usize
-    ensures { λ r. ⌜ r ≡ max a b ⌝ }
-{
-    if a < b { b } else { a }
 }
 
 // Some bytes of a slice in the held places, with zeros behind them.

@@ -88,29 +88,26 @@ abbrev μ-loop : tie.MeasureT-loop
 μ-loop family capture place reports none at₀ at = length capture - at
 
 -- the frame that was found is the next
-found : (c : tie.After-start Inv-loop μ-loop) → Next (c .before .before .before .before .before .before .before .before .before .before .args .family) (c .before .before .before .before .before .before .before .before .before .before .args .capture .now) (c .before .before .before .before .loop .at) (c .start .given .0 .0) (c .start .given .0 .1 .0) (c .start .given .0 .1 .1 .0)
+found : (c : tie.After-start Inv-loop μ-loop) → Next (c .before .before .before .before .before .before .before .before .before .args .family) (c .before .before .before .before .before .before .before .before .before .args .capture .now) (c .before .before .before .before .loop .at) (c .start .given .0 .0) (c .start .given .0 .1 .0) (c .start .given .0 .1 .1 .0)
 found c = next _ _ _ _ _ _ (sym (c .before .before .first-good .ensures) ∙ c .start .given .1)
 
-slice-aggregate-one-of : tie.Need-slice-aggregate-one-of Inv-loop μ-loop
-slice-aggregate-one-of c = search needs
-
-one-of-requires : tie.Need-one-of-requires Inv-loop μ-loop
-one-of-requires c κs = search needs
+is-family-requires : tie.Need-is-family-requires Inv-loop μ-loop
+is-family-requires c κs = search needs
 
 returns : tie.Need-returns Inv-loop μ-loop
 returns c =
-    let a = c .before .before .before .before .args in
-    no-family (a .family) (a .capture .now) (a .place) (a .reports) (sym (c .before .one-of .ensures) ∙ not-true _ (c .if1 .taken))
+    let a = c .before .before .before .args in
+    no-family (a .family) (a .capture .now) (a .place) (a .reports) (sym (c .before .is-family .ensures) ∙ not-true _ (c .if1 .taken))
 
 returns-2 : tie.Need-returns-2 Inv-loop μ-loop
 returns-2 c =
-    let a = c .before .before .before .before .before .args in
+    let a = c .before .before .before .before .args in
     too-long (a .family) (a .capture .now) (a .place) (a .reports) (lt-leb (length (a .capture .now)) 65536 (c .if2 .taken))
 
 loop-holds : tie.Need-loop-holds Inv-loop μ-loop
 loop-holds c =
-    let a = c .before .before .before .before .before .args in
-    begins (a .family) (a .capture .now) (a .place) (a .reports) (sym (c .before .before .one-of .ensures) ∙ not-false _ (c .before .if1 .left)) (le-leb (length (a .capture .now)) 65536 (c .if2 .left))
+    let a = c .before .before .before .before .args in
+    begins (a .family) (a .capture .now) (a .place) (a .reports) (sym (c .before .before .is-family .ensures) ∙ not-false _ (c .before .if1 .left)) (le-leb (length (a .capture .now)) 65536 (c .if2 .left))
 
 first-good-requires : tie.Need-first-good-requires Inv-loop μ-loop
 first-good-requires c κs = search needs
@@ -123,7 +120,7 @@ enum-told c = search needs
 
 returns-3 : tie.Need-returns-3 Inv-loop μ-loop
 returns-3 c =
-    let a = c .before .before .before .before .before .before .before .before .before .before .args in
+    let a = c .before .before .before .before .before .before .before .before .before .args in
     let loop = c .before .before .before .before .loop in
     none-left (a .family) (a .capture .now) (a .place) (a .reports) (loop .at) (loop .inv) (no-next (a .family) (a .capture .now) (loop .at) (sym (c .before .before .first-good .ensures) ∙ c .enum-told .given .1))
 
@@ -138,25 +135,25 @@ loop-less c = let n = found (c .before .before .before) in omega (arith, n .plac
 
 loop-again : tie.Need-loop-again Inv-loop μ-loop
 loop-again c =
-    let a = c .before .before .before .before .before .before .before .before .before .before .before .before .before .args in
+    let a = c .before .before .before .before .before .before .before .before .before .before .before .before .args in
     let loop = c .before .before .before .before .before .before .before .loop in
     passed-over (a .family) (a .capture .now) (a .place) (a .reports) (loop .at) _ _ _ (loop .inv) (found (c .before .before .before)) (c .before .if3 .taken) (not-report (c .before .before .before .start .given .0 .1 .1 .0) (c .match2 .keys2))
 
 returns-4 : tie.Need-returns-4 Inv-loop μ-loop
 returns-4 c =
-    let a = c .before .before .before .before .before .before .before .before .before .before .before .before .before .before .args in
+    let a = c .before .before .before .before .before .before .before .before .before .before .before .before .before .args in
     let loop = c .before .before .before .before .before .before .before .before .loop in
     wanted-report (a .family) (a .capture .now) (a .place) (a .reports) (loop .at) _ _ _ (loop .inv) (found (c .before .before .before .before)) (ap isReport (c .enum-told2 .given .1))
 
 returns-5 : tie.Need-returns-5 Inv-loop μ-loop
 returns-5 c =
-    let a = c .before .before .before .before .before .before .before .before .before .before .before .before .args in
+    let a = c .before .before .before .before .before .before .before .before .before .before .before .args in
     let loop = c .before .before .before .before .before .before .loop in
     wanted-any (a .family) (a .capture .now) (a .place) (a .reports) (loop .at) _ _ _ (loop .inv) (found (c .before .before)) (c .if3 .left)
 
 returns-6 : tie.Need-returns-6 Inv-loop μ-loop
 returns-6 c =
-    let a = c .before .before .before .before .before .before .before .args in
+    let a = c .before .before .before .before .before .before .args in
     let loop = c .before .loop in
     none-left (a .family) (a .capture .now) (a .place) (a .reports) (loop .at) (loop .inv) (at-end (a .family) (a .capture .now) (loop .at) (c .loop-test .left))
 
@@ -166,8 +163,7 @@ find-spec =
     (tie.spec
     Inv-loop
     μ-loop
-    slice-aggregate-one-of
-    one-of-requires
+    is-family-requires
     returns
     returns-2
     loop-holds

@@ -48,23 +48,20 @@ room-for-all : (family : ℕ) (bs out : List ℕ) → length bs / 6 ≤ length o
 room-for-all family bs out h = omega (arith, few-frames family bs, h)
 
 -- where the family's test has been passed
-a-family : (c : tie.Else1) → isFamily (c .before .before .before .before .before .args .family) ≡ true
-a-family c = sym (c .before .one-of .ensures) ∙ not-false _ (c .if1 .left)
+a-family : (c : tie.Else1) → isFamily (c .before .before .before .before .args .family) ≡ true
+a-family c = sym (c .before .is-family .ensures) ∙ not-false _ (c .if1 .left)
 
-slice-aggregate-one-of : tie.Need-slice-aggregate-one-of
-slice-aggregate-one-of c = search needs
-
-one-of-requires : tie.Need-one-of-requires
-one-of-requires c κs = search needs
+is-family-requires : tie.Need-is-family-requires
+is-family-requires c κs = search needs
 
 returns : tie.Need-returns
 returns c =
-    let a = c .before .before .before .before .before .args in
-    no-family (a .family) (a .capture .now) (a .starts .now) (sym (c .before .one-of .ensures) ∙ not-true _ (c .if1 .taken))
+    let a = c .before .before .before .before .args in
+    no-family (a .family) (a .capture .now) (a .starts .now) (sym (c .before .is-family .ensures) ∙ not-true _ (c .if1 .taken))
 
 returns-2 : tie.Need-returns-2
 returns-2 c =
-    let a = c .before .before .before .before .before .before .args in
+    let a = c .before .before .before .before .before .args in
     too-long (a .family) (a .capture .now) (a .starts .now) (a-family (c .before)) (lt-leb (length (a .capture .now)) 65536 (c .if2 .taken))
 
 fill-starts-requires : tie.Need-fill-starts-requires
@@ -75,7 +72,7 @@ same-length c = search needs
 
 returns-3 : tie.Need-returns-3
 returns-3 c =
-    let a = c .before .before .before .before .before .before .before .before .before .before .before .args in
+    let a = c .before .before .before .before .before .before .before .before .before .before .args in
     let done = c .before .before .fill-starts .ensures in
     let room = room-for-all (a .family) (a .capture .now) (a .starts .now) (c .before .before .before .before .if3 .taken) in
     counts (a .family) (a .capture .now) (a .starts .now) (a-family (c .before .before .before .before .before .before)) (le-leb (length (a .capture .now)) 65536 (c .before .before .before .before .before .if2 .left))
@@ -86,7 +83,7 @@ count-frames-requires c κs = (a-family (c .before .before), c .before .if2 .lef
 
 returns-4 : tie.Need-returns-4
 returns-4 c =
-    let a = c .before .before .before .before .before .before .before .before .before .args in
+    let a = c .before .before .before .before .before .before .before .before .args in
     let n = length (frames (a .family) (a .capture .now)) in
     no-room (a .family) (a .capture .now) (a .starts .now) (a-family (c .before .before .before .before)) (le-leb (length (a .capture .now)) 65536 (c .before .before .before .if2 .left))
     (lt-leb n (length (a .starts .now)) (omega (arith, c .if4 .taken, c .before .count-frames .ensures)))
@@ -99,7 +96,7 @@ same-length-2 c = search needs
 
 returns-5 : tie.Need-returns-5
 returns-5 c =
-    let a = c .before .before .before .before .before .before .before .before .before .before .before .before .before .args in
+    let a = c .before .before .before .before .before .before .before .before .before .before .before .before .args in
     let n = length (frames (a .family) (a .capture .now)) in
     let done = c .before .before .fill-starts2 .ensures in
     let room : n ≤ length (a .starts .now) = omega (arith, c .before .before .before .before .if4 .left, c .before .before .before .before .before .count-frames .ensures) in
@@ -110,8 +107,7 @@ pub list-frames-spec : {M : Type 1} → statement M
 list-frames-spec =
     tie.close
     (tie.spec
-    slice-aggregate-one-of
-    one-of-requires
+    is-family-requires
     returns
     returns-2
     fill-starts-requires

@@ -89,32 +89,29 @@ module _ (family : ℕ) (capture : RefT (List ℕ)) (place : ℕ) where
           ((λ i. part (sym same-start i) (sym same-size i) bs) ∙ ap (take n) (sym (drop-drop k place bs)), sym same-start)
 
 -- where the walk has answered, the tests have passed
-passed : (c : tie.After-first-good) → tests (c .before .before .before .before .before .before .before .args .family) (c .before .before .before .before .before .before .before .args .capture) (c .before .before .before .before .before .before .before .args .place) ≡ true
+passed : (c : tie.After-first-good) → tests (c .before .before .before .before .before .before .args .family) (c .before .before .before .before .before .before .args .capture) (c .before .before .before .before .before .before .args .place) ≡ true
 passed c =
-    let a = c .before .before .before .before .before .before .before .args in
-    both-pass _ _ (both-pass _ _ (sym (c .before .before .before .before .one-of .ensures) ∙ not-false _ (c .before .before .before .if1 .left))
+    let a = c .before .before .before .before .before .before .args in
+    both-pass _ _ (both-pass _ _ (sym (c .before .before .before .before .is-family .ensures) ∙ not-false _ (c .before .before .before .if1 .left))
     (le-leb (length (a .capture .now)) 65536 (c .before .before .if2 .left))) (le-leb (a .place) (length (a .capture .now)) (c .before .if3 .left))
 
-slice-aggregate-one-of : tie.Need-slice-aggregate-one-of
-slice-aggregate-one-of c = search needs
-
-one-of-requires : tie.Need-one-of-requires
-one-of-requires c κs = search needs
+is-family-requires : tie.Need-is-family-requires
+is-family-requires c κs = search needs
 
 slice-aggregate-result : tie.Need-slice-aggregate-result
 slice-aggregate-result c = search needs
 
 returns : tie.Need-returns
 returns c =
-    let a = c .before .before .before .before .before .args in
-    nothing (a .family) (a .capture) (a .place) refl refl (no-family (a .family) (a .capture) (a .place) (sym (c .before .before .one-of .ensures) ∙ not-true _ (c .before .if1 .taken)))
+    let a = c .before .before .before .before .args in
+    nothing (a .family) (a .capture) (a .place) refl refl (no-family (a .family) (a .capture) (a .place) (sym (c .before .before .is-family .ensures) ∙ not-true _ (c .before .if1 .taken)))
 
 slice-aggregate-result-2 : tie.Need-slice-aggregate-result-2
 slice-aggregate-result-2 c = search needs
 
 returns-2 : tie.Need-returns-2
 returns-2 c =
-    let a = c .before .before .before .before .before .before .args in
+    let a = c .before .before .before .before .before .args in
     nothing (a .family) (a .capture) (a .place) refl refl (too-long (a .family) (a .capture) (a .place) (lt-leb (length (a .capture .now)) 65536 (c .before .if2 .taken)))
 
 slice-aggregate-result-3 : tie.Need-slice-aggregate-result-3
@@ -122,7 +119,7 @@ slice-aggregate-result-3 c = search needs
 
 returns-3 : tie.Need-returns-3
 returns-3 c =
-    let a = c .before .before .before .before .before .before .before .args in
+    let a = c .before .before .before .before .before .before .args in
     nothing (a .family) (a .capture) (a .place) refl refl (beyond (a .family) (a .capture) (a .place) (lt-leb (a .place) (length (a .capture .now)) (c .before .if3 .taken)))
 
 first-good-requires : tie.Need-first-good-requires
@@ -139,7 +136,7 @@ slice-aggregate-result-4 c = search needs
 
 returns-4 : tie.Need-returns-4
 returns-4 c =
-    let a = c .before .before .before .before .before .before .before .before .before .before .args in
+    let a = c .before .before .before .before .before .before .before .before .before .args in
     let no = none-found (a .family) (a .capture) (a .place) (sym (c .before .before .before .first-good .ensures) ∙ c .before .enum-told .given .1) in
     let ok = pass (a .family) (a .capture) (a .place) (passed (c .before .before .before)) in
     nothing (a .family) (a .capture) (a .place) refl refl (no .0 ∙ ok .0, no .1 ∙ ok .1)
@@ -149,7 +146,7 @@ text-requires c κs = search needs
 
 returns-5 : tie.Need-returns-5
 returns-5 c =
-    let a = c .before .before .before .before .before .before .before .before .before .before .before .args in
+    let a = c .before .before .before .before .before .before .before .before .before .before .args in
     let told = sym (c .before .before .before .before .first-good .ensures) ∙ c .before .before .start .given .1 in
     let at = found (a .family) (a .capture) (a .place) _ _ _ told in
     let there = next (a .family) (a .capture .now) (a .place) _ _ _ told in
@@ -163,8 +160,7 @@ pub next-frame-spec : {M : Type 1} → statement M
 next-frame-spec =
     tie.close
     (tie.spec
-    slice-aggregate-one-of
-    one-of-requires
+    is-family-requires
     slice-aggregate-result
     returns
     slice-aggregate-result-2

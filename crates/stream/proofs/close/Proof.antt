@@ -18,21 +18,18 @@ use Rattle.stream_laws.proofs.Saying.{shuts}
 use Rattle.stream.proofs.close.Statement.{statement}
 use Rattle.stream.proofs.close.Tie as tie
 
-slice-aggregate-one-of : tie.Need-slice-aggregate-one-of
-slice-aggregate-one-of c = search needs
-
-one-of-requires : tie.Need-one-of-requires
-one-of-requires c κs = search needs
+is-family-requires : tie.Need-is-family-requires
+is-family-requires c κs = search needs
 
 -- where the two tests have been passed
-a-family : (c : tie.Else1) → isFamily (c .before .before .before .args .r .family) ≡ true
-a-family c = sym (c .before .one-of .ensures) ∙ not-false _ (c .if1 .left)
+a-family : (c : tie.Else1) → isFamily (c .before .before .args .r .family) ≡ true
+a-family c = sym (c .before .is-family .ensures) ∙ not-false _ (c .if1 .left)
 
-room : (c : tie.Else2) → c .before .before .before .before .before .before .args .r .count ≤ holds (c .before .before .before .before .before .before .args .r .family)
+room : (c : tie.Else2) → c .before .before .before .before .before .args .r .count ≤ holds (c .before .before .before .before .before .args .r .family)
 room c = omega (arith, c .if2 .left, c .before .longest-frame .ensures)
 
 returns : tie.Need-returns
-returns c = shuts (sym (shut-1 (c .before .before .before .args .r) (sym (c .before .one-of .ensures) ∙ not-true _ (c .if1 .taken))))
+returns c = shuts (sym (shut-1 (c .before .before .args .r) (sym (c .before .is-family .ensures) ∙ not-true _ (c .if1 .taken))))
 
 cast-count : tie.Need-cast-count
 cast-count c = search needs
@@ -41,21 +38,21 @@ longest-frame-requires : tie.Need-longest-frame-requires
 longest-frame-requires c κs = search needs
 
 returns-2 : tie.Need-returns-2
-returns-2 c = shuts (sym (shut-6 (c .before .before .before .before .before .before .args .r) (a-family (c .before .before .before)) (omega (arith, c .if2 .taken, c .before .longest-frame .ensures, top-above (head (c .before .before .before .before .before .before .args .r .family)) _ (facts (c .before .before .before .before .before .before .args .r .family))))))
+returns-2 c = shuts (sym (shut-6 (c .before .before .before .before .before .args .r) (a-family (c .before .before .before)) (omega (arith, c .if2 .taken, c .before .longest-frame .ensures, top-above (head (c .before .before .before .before .before .args .r .family)) _ (facts (c .before .before .before .before .before .args .r .family))))))
 
 slice-aggregate-keep : tie.Need-slice-aggregate-keep
 slice-aggregate-keep c = search needs
 
 keep-requires : tie.Need-keep-requires
 keep-requires c κs =
-    let start = c .before .before .before .before .before .before .before .before in
+    let start = c .before .before .before .before .before .before .before in
     let r = start .args .r in
     let places : length (r .held) ≡ 133 = sym (slice-aggregate-keep c) in
     (omega (arith, room (c .before .before), longest-fits (r .family), places), omega (arith, room (c .before .before), longest-fits (r .family)))
 
 returns-3 : tie.Need-returns-3
 returns-3 c =
-    let start = c .before .before .before .before .before .before .before .before .before in
+    let start = c .before .before .before .before .before .before .before .before in
     let r = start .args .r in
     let places : length (r .held) ≡ 133 = sym (slice-aggregate-keep (c .before)) in
     let size : length (heldOf r) ≡ r .count = length-take (r .count) (r .held) ∙ omega (arith, room (c .before .before .before), longest-fits (r .family), places) in
@@ -76,8 +73,7 @@ pub close-spec : {M : Type 1} → statement M
 close-spec =
     tie.close
     (tie.spec
-    slice-aggregate-one-of
-    one-of-requires
+    is-family-requires
     returns
     cast-count
     longest-frame-requires

@@ -23,21 +23,18 @@ use Rattle.stream_laws.proofs.Saying.{feeds}
 use Rattle.stream.proofs.feed.Statement.{statement}
 use Rattle.stream.proofs.feed.Tie as tie
 
-slice-aggregate-one-of : tie.Need-slice-aggregate-one-of
-slice-aggregate-one-of c = search needs
-
-one-of-requires : tie.Need-one-of-requires
-one-of-requires c κs = search needs
+is-family-requires : tie.Need-is-family-requires
+is-family-requires c κs = search needs
 
 -- where the first two tests have been passed
-a-family : (c : tie.Else1) → isFamily (c .before .before .before .before .args .r .family) ≡ true
-a-family c = sym (c .before .one-of .ensures) ∙ not-false _ (c .if1 .left)
+a-family : (c : tie.Else1) → isFamily (c .before .before .before .args .r .family) ≡ true
+a-family c = sym (c .before .is-family .ensures) ∙ not-false _ (c .if1 .left)
 
-room : (c : tie.Else2) → c .before .before .before .before .before .before .before .args .r .count ≤ holds (c .before .before .before .before .before .before .before .args .r .family)
+room : (c : tie.Else2) → c .before .before .before .before .before .before .args .r .count ≤ holds (c .before .before .before .before .before .before .args .r .family)
 room c = omega (arith, c .if2 .left, c .before .longest-frame .ensures)
 
 returns : tie.Need-returns
-returns c = feeds (sym (refused-1 (c .before .before .before .before .args .r) _ (sym (c .before .one-of .ensures) ∙ not-true _ (c .if1 .taken))))
+returns c = feeds (sym (refused-1 (c .before .before .before .args .r) _ (sym (c .before .is-family .ensures) ∙ not-true _ (c .if1 .taken))))
 
 cast-count : tie.Need-cast-count
 cast-count c = search needs
@@ -47,7 +44,7 @@ longest-frame-requires c κs = search needs
 
 returns-2 : tie.Need-returns-2
 returns-2 c =
-    let r = c .before .before .before .before .before .before .before .args .r in
+    let r = c .before .before .before .before .before .before .args .r in
     feeds (sym (refused-6 r _ (a-family (c .before .before .before)) (omega (arith, c .if2 .taken, c .before .longest-frame .ensures, top-above (head (r .family)) _ (facts (r .family))))))
 
 slice-aggregate-text : tie.Need-slice-aggregate-text
@@ -56,24 +53,24 @@ slice-aggregate-text c = search needs
 text-requires : tie.Need-text-requires
 text-requires c κs = search needs
 
-few : (c : tie.After-text) → length (c .text .result .now) < longest (c .before .before .before .before .before .before .before .before .before .before .before .before .args .r .family)
+few : (c : tie.After-text) → length (c .text .result .now) < longest (c .before .before .before .before .before .before .before .before .before .before .before .args .r .family)
 few c =
-    let r = c .before .before .before .before .before .before .before .before .before .before .before .before .args .r in
+    let r = c .before .before .before .before .before .before .before .before .before .before .before .args .r in
     let size = ap length (c .text .ensures .content) ∙ length-take (r .count) (r .held) in
     omega (arith, size, room (c .before .before .before .before .before), top-above (head (r .family)) _ (facts (r .family)))
 
 run-requires : tie.Need-run-requires
-run-requires c κs = (omega (arith, few c), omega (arith, few c, longest-fits (c .before .before .before .before .before .before .before .before .before .before .before .before .args .r .family)))
+run-requires c κs = (omega (arith, few c), omega (arith, few c, longest-fits (c .before .before .before .before .before .before .before .before .before .before .before .args .r .family)))
 
 answered-requires : tie.Need-answered-requires
 answered-requires c κs =
-    let start = c .before .before .before .before .before .before .before .before .before .before .before .before .before in
+    let start = c .before .before .before .before .before .before .before .before .before .before .before .before in
     subst (λ (t : Turn). (t .count ≤ 133) × StepFits (t .step)) (sym (c .run .ensures))
     (turn-fits (start .args .r .family) (c .before .text .result .now) (start .args .offered .now) (few (c .before)) (omega (arith, start .good)))
 
 returns-3 : tie.Need-returns-3
 returns-3 c =
-    let a = c .before .before .before .before .before .before .before .before .before .before .before .before .before .before .args in
+    let a = c .before .before .before .before .before .before .before .before .before .before .before .before .before .args in
     let r = a .r in
     feeds (c .answered .ensures
     ∙ ap (fedBy r) (c .before .run .ensures)
@@ -83,7 +80,7 @@ returns-3 c =
 
 returns-4 : tie.Need-returns-4
 returns-4 c =
-    let a = c .before .before .before .before .before .before .before .before .before .before .args in
+    let a = c .before .before .before .before .before .before .before .before .before .args in
     feeds (sym (refused-5 (a .r) (a .offered .now) (a-family (c .before .before .before .before .before .before)) (room (c .before .before .before)) (c .before .if3 .left) (c .if4 .taken)))
 
 drain-requires : tie.Need-drain-requires
@@ -91,7 +88,7 @@ drain-requires c κs = search needs
 
 returns-5 : tie.Need-returns-5
 returns-5 c =
-    let a = c .before .before .before .before .before .before .before .before .before .before .before .args in
+    let a = c .before .before .before .before .before .before .before .before .before .before .args in
     let none : a .offered .now ≡ [] = drop-of-length-le (a .offered .now) {i = 0} (omega (arith, c .before .if4 .left)) in
     feeds (c .drain .ensures
     ∙ sym (closed-call (a .r) (a-family (c .before .before .before .before .before .before .before)) (room (c .before .before .before .before)) (c .before .before .if3 .left))
@@ -101,8 +98,7 @@ pub feed-spec : {M : Type 1} → statement M
 feed-spec =
     tie.close
     (tie.spec
-    slice-aggregate-one-of
-    one-of-requires
+    is-family-requires
     returns
     cast-count
     longest-frame-requires

@@ -8,17 +8,14 @@ use Rattle.stream_laws.proofs.Saying.{makes}
 use Rattle.stream.proofs.fresh_reader.Statement.{statement}
 use Rattle.stream.proofs.fresh_reader.Tie as tie
 
-slice-aggregate-one-of : tie.Need-slice-aggregate-one-of
-slice-aggregate-one-of c = search needs
-
-one-of-requires : tie.Need-one-of-requires
-one-of-requires c κs = search needs
+is-family-requires : tie.Need-is-family-requires
+is-family-requires c κs = search needs
 
 returns : tie.Need-returns
-returns c = makes (sym (fresh-1 _ (sym (c .before .one-of .ensures) ∙ not-true _ (c .if1 .taken))))
+returns c = makes (sym (fresh-1 _ (sym (c .before .is-family .ensures) ∙ not-true _ (c .if1 .taken))))
 
 returns-2 : tie.Need-returns-2
-returns-2 c = makes (sym (fresh-call _ (sym (c .before .one-of .ensures) ∙ not-false _ (c .if1 .left))))
+returns-2 c = makes (sym (fresh-call _ (sym (c .before .is-family .ensures) ∙ not-false _ (c .if1 .left))))
 
 pub fresh-reader-spec : {M : Type 1} → statement M
-fresh-reader-spec = tie.close (tie.spec slice-aggregate-one-of one-of-requires returns returns-2)
+fresh-reader-spec = tie.close (tie.spec is-family-requires returns returns-2)
