@@ -39,7 +39,7 @@ last-of-number pad zero n h = absurd (omega arith)
 last-of-number pad (suc w) n h = rw sub-one
 
 -- one digit less is one power of ten less
-tenfold : (w n : ℕ) → n < 10 ^ suc w → n / 10 < 10 ^ w
+pub tenfold : (w n : ℕ) → n < 10 ^ suc w → n / 10 < 10 ^ w
 tenfold w n h = div-lt-iff-lt-mul {k = 10} {x = n} {y = 10 ^ w} (omega arith) .1 (rw pow-suc at h)
 
 tenfold-least : (w n : ℕ) → 10 ^ suc w ≤ n → 10 ^ w ≤ n / 10
@@ -59,7 +59,7 @@ module _ (w n : ℕ) where
   last-of = rw cut (digits-mod (n / 10 % 10 ^ w) (mod-lt n (omega arith)))
 
 -- the rules' row of digits, by its last
-zeros-last : (w n : ℕ) → n < 10 ^ suc w → withZeros (suc w) n ≡ withZeros w (n / 10) ++ (code "0" + n % 10) ∷ []
+pub zeros-last : (w n : ℕ) → n < 10 ^ suc w → withZeros (suc w) n ≡ withZeros w (n / 10) ++ (code "0" + n % 10) ∷ []
 unfolding withZeros
 zeros-last zero n h = rw (div-one, mod-eq-of-lt h)
 zeros-last (suc w) n h =

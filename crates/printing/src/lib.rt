@@ -1,8 +1,8 @@
 // What the programs `listing` and `replay` print, for them and for the program that runs the bench
 // sheet's cases.
 //
-// The contracts say nothing of it: each function is proved safe and ending, and what is printed is
-// tested by the programs that print it.
+// Of what is printed nothing is promised: each function is proved safe and ending, and the programs
+// that print test it. `part_kind` prints nothing, and promises what it leaves in the line.
 mod listing;
 mod replay;
 

@@ -8,6 +8,8 @@ use std::num::wrapping_sub_usize;
 use stream_rules::Listed;
 ghost use mathlib.Core.Path.{_≡_};
 ghost use lib.ListN.{length};
+ghost use Rattle.lines.specs.Lines.{Types};
+ghost use Rattle.printing.specs.Parts.{partTexts};
 
 // Room for as many starts as a capture can have frames, of six bytes each.
 fn starts_buffer() -> [u32; 10922]
@@ -21,11 +23,11 @@ pub fn print_listing(family: u8, capture: &[u8]) {
     let mut starts = starts_buffer();
     match list_frames(family, capture, &mut starts) {
         Listed::Count(n) => {
-            show::print_text(b"start length skipped kind");
+            lines::print_text(b"start length skipped kind");
             let inside = print_frames(family, capture, &starts[..n]);
             print_sum(n, capture.len(), wrapping_sub_usize(capture.len(), inside));
         }
-        Listed::Refused(n) => show::print_refused(n),
+        Listed::Refused(n) => lines::print_refused(n),
     }
 }
 
@@ -47,29 +49,31 @@ fn print_frames(family: u8, capture: &[u8], starts: &[u32]) -> usize {
 
 fn print_frame(family: u8, frame: &[u8], start: usize, skipped: usize) {
     let mut line = [0u8; 128];
-    let at = show::number(&mut line, 0, start as u64);
-    let at = show::spaced(&mut line, at, frame.len() as u64);
-    let at = show::spaced(&mut line, at, skipped as u64);
-    let at = show::text(&mut line, at, b" ");
+    let at = lines::number(&mut line, 0, start as u64);
+    let at = lines::spaced(&mut line, at, frame.len() as u64);
+    let at = lines::spaced(&mut line, at, skipped as u64);
+    let at = lines::text(&mut line, at, b" ");
     let end = part_kind(&mut line, at, family, frame);
-    show::print(&mut line, end);
+    lines::print(&mut line, end);
 }
 
-// What kind of frame a part of a capture is.
-pub fn part_kind(line: &mut [u8], at: usize, family: u8, frame: &[u8]) -> usize {
+// What kind of frame a part of a capture is, or the refusal of a part that is none.
+pub fn part_kind(line: &mut [u8], at: usize, family: u8, frame: &[u8]) -> usize
+    ensures { λ r. ⌜ Types (partTexts family (now (frame .entry))) (now (line .entry)) at (now (line .exit)) r ⌝ }
+{
     match frames::read_frame(family, frame) {
         Reading::Good(f) => show::kind(line, at, f),
-        Reading::Refused(n) => show::refused(line, at, n),
+        Reading::Refused(n) => lines::refused(line, at, n),
     }
 }
 
 fn print_sum(frames: usize, bytes: usize, skipped: usize) {
     let mut line = [0u8; 128];
-    let at = show::text(&mut line, 0, b"frames");
-    let at = show::spaced(&mut line, at, frames as u64);
-    let at = show::text(&mut line, at, b" bytes");
-    let at = show::spaced(&mut line, at, bytes as u64);
-    let at = show::text(&mut line, at, b" skipped");
-    let end = show::spaced(&mut line, at, skipped as u64);
-    show::print(&mut line, end);
+    let at = lines::text(&mut line, 0, b"frames");
+    let at = lines::spaced(&mut line, at, frames as u64);
+    let at = lines::text(&mut line, at, b" bytes");
+    let at = lines::spaced(&mut line, at, bytes as u64);
+    let at = lines::text(&mut line, at, b" skipped");
+    let end = lines::spaced(&mut line, at, skipped as u64);
+    lines::print(&mut line, end);
 }

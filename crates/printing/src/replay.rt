@@ -19,13 +19,13 @@ pub fn print_replay(family: u8, script: &[u8]) {
     let outcome = made.outcome;
     match outcome {
         Outcome::Accepted => print_calls(made.reader, script),
-        Outcome::Refused(n) => show::print_refused(n),
+        Outcome::Refused(n) => lines::print_refused(n),
     }
 }
 
 fn print_calls(first: Reader, script: &[u8]) {
     if 65536 < script.len() {
-        show::print_refused(7);
+        lines::print_refused(7);
         return;
     }
     let mut reader = first;
@@ -33,13 +33,13 @@ fn print_calls(first: Reader, script: &[u8]) {
     while at < script.len() {
         let size = call_size(script, at);
         if size == 0 {
-            show::print_text(b"bad script");
+            lines::print_text(b"bad script");
             return;
         }
         reader = make_call(reader, text(script, at, size));
         at += size;
     }
-    show::print_text(b"end");
+    lines::print_text(b"end");
 }
 
 // How many bytes the call at a place has; 0 where there is none, or it is cut short.
@@ -81,8 +81,8 @@ fn print_close(reader: Reader) -> Reader {
     let closed = close(reader);
     let outcome = closed.outcome;
     match outcome {
-        Outcome::Accepted => show::print_text(b"closed"),
-        Outcome::Refused(n) => show::print_refused(n),
+        Outcome::Accepted => lines::print_text(b"closed"),
+        Outcome::Refused(n) => lines::print_refused(n),
     }
     closed.reader
 }
@@ -116,26 +116,26 @@ fn print_answer(answer: Answer) {
         Answer::Ready(r) => print_ready(r),
         Answer::More(n) => print_count(b"more", n),
         Answer::Done(n) => print_count(b"done", n),
-        Answer::Refused(n) => show::print_refused(n),
+        Answer::Refused(n) => lines::print_refused(n),
     }
 }
 
 fn print_ready(r: Ready) {
     let mut line = [0u8; 512];
-    let at = show::text(&mut line, 0, b"frame");
-    let at = show::spaced(&mut line, at, r.taken as u64);
-    let at = show::spaced(&mut line, at, r.start as u64);
-    let at = show::spaced(&mut line, at, r.skipped as u64);
-    let at = show::spaced(&mut line, at, r.length as u64);
-    let at = show::text(&mut line, at, b" ");
+    let at = lines::text(&mut line, 0, b"frame");
+    let at = lines::spaced(&mut line, at, r.taken as u64);
+    let at = lines::spaced(&mut line, at, r.start as u64);
+    let at = lines::spaced(&mut line, at, r.skipped as u64);
+    let at = lines::spaced(&mut line, at, r.length as u64);
+    let at = lines::text(&mut line, at, b" ");
     let frame = r.frame;
     let end = show::frame(&mut line, at, frame);
-    show::print(&mut line, end);
+    lines::print(&mut line, end);
 }
 
 fn print_count(word: &[u8], n: usize) {
     let mut line = [0u8; 64];
-    let at = show::text(&mut line, 0, word);
-    let end = show::spaced(&mut line, at, n as u64);
-    show::print(&mut line, end);
+    let at = lines::text(&mut line, 0, word);
+    let end = lines::spaced(&mut line, at, n as u64);
+    lines::print(&mut line, end);
 }

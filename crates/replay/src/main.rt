@@ -7,7 +7,7 @@ fn main() {
     let mut input = room::input_buffer();
     let n = io::read_full(libc::STDIN_FILENO, &mut input);
     if n == 0 {
-        show::print_refused(1);
+        lines::print_refused(1);
         return;
     }
     print_replay(wrapping_sub_u8(input[0], b'0'), &input[1..n]);

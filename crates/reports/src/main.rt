@@ -15,7 +15,7 @@ fn main() {
     let mut input = room::input_buffer();
     let n = io::read_full(libc::STDIN_FILENO, &mut input);
     if n == 0 {
-        show::print_refused(1);
+        lines::print_refused(1);
         return;
     }
     print_stream(wrapping_sub_u8(input[0], b'0'), &input[1..n]);
@@ -29,7 +29,7 @@ fn print_stream(family: u8, stream: &[u8]) {
             let closed = closed_lent(print_pieces(made.reader, stream));
             print_reports(closed.reader, b"");
         }
-        Outcome::Refused(n) => show::print_refused(n),
+        Outcome::Refused(n) => lines::print_refused(n),
     }
 }
 
@@ -68,8 +68,8 @@ fn print_report(r: Ready) {
         return;
     };
     let mut line = [0u8; 512];
-    let at = show::number(&mut line, 0, r.start as u64);
-    let at = show::text(&mut line, at, b" ");
+    let at = lines::number(&mut line, 0, r.start as u64);
+    let at = lines::text(&mut line, at, b" ");
     let end = show::frame(&mut line, at, frame);
-    show::print(&mut line, end);
+    lines::print(&mut line, end);
 }

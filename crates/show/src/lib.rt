@@ -1,67 +1,26 @@
 // A frame as text, for the programs: its kind, its values, and what the writer makes of it. Each
-// function but the last three lays text into a lent line at a place and gives the place behind it;
-// what has no room is left out. The last three print.
-//
-// The contracts say nothing: each function is proved safe and ending, and what is printed is tested
-// by the programs that print it.
+// function lays text into a lent line at a place and gives the place behind it; what has no room is
+// left out.
 mod records;
 
+use lines::hex;
+use lines::hex_byte;
+use lines::text;
 use rules::Frame;
 use rules::Written;
-
-pub fn text(line: &mut [u8], at: usize, what: &[u8]) -> usize {
-    if line.len() < at {
-        return at;
-    }
-    if line.len() - at < what.len() {
-        return at;
-    }
-    pens::put_bytes(line, at, what);
-    at + what.len()
-}
-
-// A number in decimal digits.
-pub fn number(line: &mut [u8], at: usize, n: u64) -> usize {
-    let mut digits = [0u8; 20];
-    let k = io::decimal(n, &mut digits);
-    text(line, at, &digits[..k])
-}
-
-// A space and a number.
-pub fn spaced(line: &mut [u8], at: usize, n: u64) -> usize {
-    let place = text(line, at, b" ");
-    number(line, place, n)
-}
-
-// Bytes as capital hexadecimal digits, two for each, with nothing between.
-fn hex(line: &mut [u8], at: usize, bytes: &[u8]) -> usize {
-    let mut place = at;
-    let mut i = 0;
-    while i < bytes.len() {
-        place = hex_byte(line, place, bytes[i]);
-        i += 1;
-    }
-    place
-}
-
-fn hex_byte(line: &mut [u8], at: usize, b: u8) -> usize {
-    let mut digits = [0u8; 2];
-    pens::put_hex(&mut digits, 0, b);
-    text(line, at, &digits)
-}
+ghost use mathlib.Core.List.{[], _∷_};
+ghost use Rattle.rules.specs.Numbers.{hexDigits};
+ghost use Rattle.lines.specs.Lines.{Types};
+ghost use Rattle.show.specs.Texts.{sentenceTexts, kindTexts, valueTexts, writtenTexts, frameTexts};
 
 // What kind of frame it is: `ack XX`, `status`, `command XX` or `APAnn`.
-pub fn kind(line: &mut [u8], at: usize, frame: Frame) -> usize {
+pub fn kind(line: &mut [u8], at: usize, frame: Frame) -> usize
+    ensures { λ r. ⌜ Types (kindTexts frame) (now (line .entry)) at (now (line .exit)) r ⌝ }
+{
     match frame {
-        Frame::Ack(code) => {
-            let place = text(line, at, b"ack ");
-            hex_byte(line, place, code)
-        }
+        Frame::Ack(code) => coded(line, at, b"ack ", code),
         Frame::Status(_) => text(line, at, b"status"),
-        Frame::Command(code) => {
-            let place = text(line, at, b"command ");
-            hex_byte(line, place, code)
-        }
+        Frame::Command(code) => coded(line, at, b"command ", code),
         Frame::Apa02(_) => sentence(line, at, 2),
         Frame::Apa03(_) => sentence(line, at, 3),
         Frame::Apa05(_) => sentence(line, at, 5),
@@ -69,13 +28,27 @@ pub fn kind(line: &mut [u8], at: usize, frame: Frame) -> usize {
     }
 }
 
-fn sentence(line: &mut [u8], at: usize, n: u8) -> usize {
-    let name = [b'A', b'P', b'A', b'0' + n / 10 % 10, b'0' + n % 10];
+// A word, and a code behind it.
+fn coded(line: &mut [u8], at: usize, word: &[u8], code: u8) -> usize
+    ensures { λ r. ⌜ Types (now (word .entry) ∷ hexDigits code ∷ []) (now (line .entry)) at (now (line .exit)) r ⌝ }
+{
+    let place = text(line, at, word);
+    hex_byte(line, place, code)
+}
+
+// A sentence by its number.
+fn sentence(line: &mut [u8], at: usize, n: u8) -> usize
+    ensures { λ r. ⌜ Types (sentenceTexts n) (now (line .entry)) at (now (line .exit)) r ⌝ }
+{
+    let two = n % 100;
+    let name = [b'A', b'P', b'A', b'0' + two / 10, b'0' + two % 10];
     text(line, at, &name)
 }
 
 // The values of a record, each behind a space; none for a frame that has no record.
-fn values(line: &mut [u8], at: usize, frame: Frame) -> usize {
+fn values(line: &mut [u8], at: usize, frame: Frame) -> usize
+    ensures { λ r. ⌜ Types (valueTexts frame) (now (line .entry)) at (now (line .exit)) r ⌝ }
+{
     match frame {
         Frame::Status(s) => records::status(line, at, s),
         Frame::Apa02(r) => records::sentence02(line, at, r),
@@ -86,7 +59,9 @@ fn values(line: &mut [u8], at: usize, frame: Frame) -> usize {
 }
 
 // The written bytes, or `-` where nothing is written.
-fn written(line: &mut [u8], at: usize, frame: Frame) -> usize {
+fn written(line: &mut [u8], at: usize, frame: Frame) -> usize
+    ensures { λ r. ⌜ Types (writtenTexts frame) (now (line .entry)) at (now (line .exit)) r ⌝ }
+{
     let mut out = [0u8; 75];
     let answer = given::write_frame(frame, &mut out);
     let Written::Length(n) = answer else {
@@ -96,34 +71,11 @@ fn written(line: &mut [u8], at: usize, frame: Frame) -> usize {
 }
 
 // The kind, the values, and behind a bar what the writer makes of them.
-pub fn frame(line: &mut [u8], at: usize, frame: Frame) -> usize {
+pub fn frame(line: &mut [u8], at: usize, frame: Frame) -> usize
+    ensures { λ r. ⌜ Types (frameTexts frame) (now (line .entry)) at (now (line .exit)) r ⌝ }
+{
     let place = kind(line, at, frame);
     let place = values(line, place, frame);
     let place = text(line, place, b" | ");
     written(line, place, frame)
-}
-
-pub fn refused(line: &mut [u8], at: usize, n: u8) -> usize {
-    let place = text(line, at, b"refused");
-    spaced(line, place, n as u64)
-}
-
-// Prints a text as a line.
-pub fn print_text(what: &[u8]) {
-    let mut line = [0u8; 512];
-    let end = text(&mut line, 0, what);
-    print(&mut line, end);
-}
-
-// Prints a refusal as a line.
-pub fn print_refused(n: u8) {
-    let mut line = [0u8; 32];
-    let end = refused(&mut line, 0, n);
-    print(&mut line, end);
-}
-
-// Prints the line up to the place, and a line end, in one write.
-pub fn print(line: &mut [u8], at: usize) {
-    let end = text(line, at, b"\n");
-    io::write_all(libc::STDOUT_FILENO, leaves::text(line, 0, end));
 }

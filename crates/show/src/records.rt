@@ -1,14 +1,23 @@
 // The values of each record, in the order of document 01.
-use crate::number;
-use crate::spaced;
-use crate::text;
+use lines::number;
+use lines::spaced;
+use lines::text;
 use rules::Sentence02;
 use rules::Sentence03;
 use rules::Sentence05;
 use rules::Status;
+ghost use mathlib.Core.Path.{_≡_};
+ghost use mathlib.Core.List.{_++_};
+ghost use lib.IntN.{natAbs};
+ghost use Rattle.rules.specs.Sentences.{numbers02, numbers03};
+ghost use Rattle.rules.specs.Answers.{numbers05};
+ghost use Rattle.lines.specs.Lines.{Types, spacedTexts};
+ghost use Rattle.show.specs.Texts.{letterTexts, numberTexts, temperatureTexts, settingTexts, antennaTexts, statusValues};
 
 // Each number behind a space.
-fn numbers(line: &mut [u8], at: usize, numbers: &[u32]) -> usize {
+fn numbers(line: &mut [u8], at: usize, numbers: &[u32]) -> usize
+    ensures { λ r. ⌜ Types (numberTexts (now (numbers .entry))) (now (line .entry)) at (now (line .exit)) r ⌝ }
+{
     let mut place = at;
     let mut i = 0;
     while i < numbers.len() {
@@ -18,16 +27,22 @@ fn numbers(line: &mut [u8], at: usize, numbers: &[u32]) -> usize {
     place
 }
 
-fn value(line: &mut [u8], at: usize, n: u32) -> usize {
+fn value(line: &mut [u8], at: usize, n: u32) -> usize
+    ensures { λ r. ⌜ Types (spacedTexts n) (now (line .entry)) at (now (line .exit)) r ⌝ }
+{
     spaced(line, at, n as u64)
 }
 
-fn letter(line: &mut [u8], at: usize, b: u8) -> usize {
+fn letter(line: &mut [u8], at: usize, b: u8) -> usize
+    ensures { λ r. ⌜ Types (letterTexts b) (now (line .entry)) at (now (line .exit)) r ⌝ }
+{
     let t = [b' ', b];
     text(line, at, &t)
 }
 
-pub(crate) fn status(line: &mut [u8], at: usize, s: Status) -> usize {
+pub(crate) fn status(line: &mut [u8], at: usize, s: Status) -> usize
+    ensures { λ r. ⌜ Types (statusValues s) (now (line .entry)) at (now (line .exit)) r ⌝ }
+{
     let place = settings(line, at, s);
     let place = antennas(line, place, s);
     let meters = [
@@ -46,7 +61,9 @@ pub(crate) fn status(line: &mut [u8], at: usize, s: Status) -> usize {
 }
 
 // Fields 1 to 6.
-fn settings(line: &mut [u8], at: usize, s: Status) -> usize {
+fn settings(line: &mut [u8], at: usize, s: Status) -> usize
+    ensures { λ r. ⌜ Types (settingTexts s) (now (line .entry)) at (now (line .exit)) r ⌝ }
+{
     let place = value(line, at, s.id as u32);
     let letters = [b'K', b' ', s.state, b' ', s.direction, b' ', s.bank];
     let place = text(line, place, &letters);
@@ -55,7 +72,9 @@ fn settings(line: &mut [u8], at: usize, s: Status) -> usize {
 }
 
 // Fields 7 to 9.
-fn antennas(line: &mut [u8], at: usize, s: Status) -> usize {
+fn antennas(line: &mut [u8], at: usize, s: Status) -> usize
+    ensures { λ r. ⌜ Types (antennaTexts s) (now (line .entry)) at (now (line .exit)) r ⌝ }
+{
     let place = value(line, at, s.transmit as u32);
     let tuner = [s.tuner];
     let place = text(line, place, &tuner);
@@ -63,7 +82,9 @@ fn antennas(line: &mut [u8], at: usize, s: Status) -> usize {
     letter(line, place, s.level)
 }
 
-pub(crate) fn sentence02(line: &mut [u8], at: usize, r: Sentence02) -> usize {
+pub(crate) fn sentence02(line: &mut [u8], at: usize, r: Sentence02) -> usize
+    ensures { λ place. ⌜ Types (numberTexts (numbers02 r)) (now (line .entry)) at (now (line .exit)) place ⌝ }
+{
     let row = [
         r.pfwd,
         r.swr,
@@ -82,7 +103,9 @@ pub(crate) fn sentence02(line: &mut [u8], at: usize, r: Sentence02) -> usize {
     numbers(line, at, &row)
 }
 
-pub(crate) fn sentence03(line: &mut [u8], at: usize, r: Sentence03) -> usize {
+pub(crate) fn sentence03(line: &mut [u8], at: usize, r: Sentence03) -> usize
+    ensures { λ place. ⌜ Types (numberTexts (numbers03 r) ++ temperatureTexts (r .temp)) (now (line .entry)) at (now (line .exit)) place ⌝ }
+{
     let row = [
         r.v5,
         r.v12,
@@ -98,7 +121,9 @@ pub(crate) fn sentence03(line: &mut [u8], at: usize, r: Sentence03) -> usize {
 }
 
 // A temperature in tenths, with a minus where it is below zero.
-fn temperature(line: &mut [u8], at: usize, z: i32) -> usize {
+fn temperature(line: &mut [u8], at: usize, z: i32) -> usize
+    ensures { λ r. ⌜ Types (temperatureTexts z) (now (line .entry)) at (now (line .exit)) r ⌝ }
+{
     if z < 0 {
         let place = text(line, at, b" -");
         return number(line, place, size(z));
@@ -107,15 +132,19 @@ fn temperature(line: &mut [u8], at: usize, z: i32) -> usize {
 }
 
 // How far from zero.
-fn size(z: i32) -> u64 {
+fn size(z: i32) -> u64
+    ensures { λ r. ⌜ r ≡ natAbs z ⌝ }
+{
     if z < 0 {
         return (0 - z as i64) as u64;
     }
     z as u64
 }
 
-pub(crate) fn sentence05(line: &mut [u8], at: usize, r: Sentence05) -> usize {
-    let nibbles = [
+pub(crate) fn sentence05(line: &mut [u8], at: usize, r: Sentence05) -> usize
+    ensures { λ place. ⌜ Types (numberTexts (numbers05 r)) (now (line .entry)) at (now (line .exit)) place ⌝ }
+{
+    let row = [
         r.band as u32,
         r.segment as u32,
         r.memory as u32,
@@ -124,8 +153,9 @@ pub(crate) fn sentence05(line: &mut [u8], at: usize, r: Sentence05) -> usize {
         r.control as u32,
         r.options as u32,
         r.state as u32,
+        r.wtime as u32,
+        r.tcmd as u32,
+        r.lcmd as u32,
     ];
-    let place = numbers(line, at, &nibbles);
-    let rest = [r.wtime as u32, r.tcmd as u32, r.lcmd as u32];
-    numbers(line, place, &rest)
+    numbers(line, at, &row)
 }

@@ -44,11 +44,11 @@ fn line_end(text: &[u8], a: usize) -> usize
 
 fn print_answer(line: &[u8]) {
     if line.len() < 2 {
-        show::print_text(b"bad line");
+        lines::print_text(b"bad line");
         return;
     }
     if line[0] == b'#' {
-        show::print_text(line);
+        lines::print_text(line);
         return;
     }
     if leaves::one_of(b"lr", line[0]) {
@@ -69,7 +69,7 @@ fn print_answer(line: &[u8]) {
 // The listing of a capture, or the replay of a script.
 fn print_run(line: &[u8]) {
     if line.len() < 3 {
-        show::print_text(b"bad line");
+        lines::print_text(b"bad line");
         return;
     }
     let family = wrapping_sub_u8(line[1], b'0');
@@ -77,7 +77,7 @@ fn print_run(line: &[u8]) {
     let mut bytes = [0u8; 256];
     let n = from_hex(digits, &mut bytes);
     if n + n != digits.len() {
-        show::print_text(b"bad line");
+        lines::print_text(b"bad line");
         return;
     }
     if line[0] == b'l' {
@@ -93,7 +93,7 @@ fn print_hex(family: u8, digits: &[u8]) {
     if n + n == digits.len() {
         print_frame(family, &bytes[0..n]);
     } else {
-        show::print_text(b"bad line");
+        lines::print_text(b"bad line");
     }
 }
 
@@ -121,8 +121,8 @@ fn print_frame(family: u8, bytes: &[u8]) {
     match frames::read_frame(family, bytes) {
         Reading::Good(frame) => {
             let end = show::frame(&mut line, 0, frame);
-            show::print(&mut line, end);
+            lines::print(&mut line, end);
         }
-        Reading::Refused(n) => show::print_refused(n),
+        Reading::Refused(n) => lines::print_refused(n),
     }
 }

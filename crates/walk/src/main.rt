@@ -8,13 +8,13 @@ fn main() {
     let mut input = room::input_buffer();
     let n = io::read_full(libc::STDIN_FILENO, &mut input);
     if n == 0 {
-        show::print_refused(1);
+        lines::print_refused(1);
         return;
     }
     let family = wrapping_sub_u8(input[0], b'0');
-    show::print_text(b"every frame");
+    lines::print_text(b"every frame");
     print_walk(family, &input[1..n], false);
-    show::print_text(b"only reports");
+    lines::print_text(b"only reports");
     print_walk(family, &input[1..n], true);
 }
 
@@ -31,9 +31,9 @@ fn print_walk(family: u8, capture: &[u8], reports: bool) {
 
 fn print_frame(family: u8, frame: &[u8], place: usize) {
     let mut line = [0u8; 128];
-    let at = show::number(&mut line, 0, place as u64);
-    let at = show::spaced(&mut line, at, frame.len() as u64);
-    let at = show::text(&mut line, at, b" ");
+    let at = lines::number(&mut line, 0, place as u64);
+    let at = lines::spaced(&mut line, at, frame.len() as u64);
+    let at = lines::text(&mut line, at, b" ");
     let end = printing::part_kind(&mut line, at, family, frame);
-    show::print(&mut line, end);
+    lines::print(&mut line, end);
 }

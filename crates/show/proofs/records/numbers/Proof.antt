@@ -1,20 +1,25 @@
--- `show::records::numbers` is safe and ends. The loop's invariant: the line keeps its length. The measure is what is left
--- of the numbers. Assumes nothing.
+-- `show::records::numbers` meets its contract. The loop's invariant: what is left to be typed makes the line that all
+-- numbers make, and the line keeps its length. The measure is what is left of the numbers.
+-- Assumes nothing.
 use Prim.Native.Nat.{_-_}
-use mathlib.Core.Path.{_≡_}
+use mathlib.Core.Path.{_≡_, refl}
 use borrow.Author.Needs.{needs}
-use lib.ListN.{length}
+use lib.ListN.{length, drop}
+use Rattle.lines.specs.Lines.{typed, spacedTexts}
+use Rattle.lines.proofs.Typed.{Left, each-step, all-typed}
+use Rattle.show.specs.Texts.{numberTexts}
 use Rattle.show.proofs.records.numbers.Statement.{statement}
 use Rattle.show.proofs.records.numbers.Tie as tie
 
 abbrev Inv-loop : tie.InvT-loop
-Inv-loop line₀ at numbers place₀ i₀ line place i = length line ≡ length line₀
+Inv-loop line₀ at numbers place₀ i₀ line place i =
+    Left (numberTexts (drop i numbers)) line place (typed (numberTexts numbers) (line₀, at)) × (length line ≡ length line₀)
 
 abbrev μ-loop : tie.MeasureT-loop
 μ-loop line₀ at numbers place₀ i₀ line place i = length numbers - i
 
 loop-holds : tie.Need-loop-holds Inv-loop μ-loop
-loop-holds c = search needs
+loop-holds c = (record { makes = refl }, refl)
 
 mul-value : tie.Need-mul-value Inv-loop μ-loop
 mul-value c = search needs
@@ -32,13 +37,18 @@ loop-less : tie.Need-loop-less Inv-loop μ-loop
 loop-less c = search needs
 
 loop-again : tie.Need-loop-again Inv-loop μ-loop
-loop-again c = search needs
+loop-again c =
+    let v = c .before .before in
+    let l = v .before .before .before .before .loop in
+    (each-step spacedTexts (l .i) _ (l .inv .0) (v .before .before .before .loop-test .taken) (v .value .ensures), search needs)
 
 same-length : tie.Need-same-length Inv-loop μ-loop
 same-length c = search needs
 
 returns : tie.Need-returns Inv-loop μ-loop
-returns c = search needs
+returns c =
+    let l = c .before .loop in
+    record { leaves = all-typed spacedTexts (l .i) _ (l .inv .0) (c .loop-test .left) }
 
 pub numbers-spec : {M : Type 1} → statement M
 numbers-spec =

@@ -1,4 +1,5 @@
--- `show::records::size` is safe: a number of 32 bits, read as one of 64 and taken from zero, fits, the lowest one too.
+-- `show::records::size` meets its contract: a number of 32 bits, read as one of 64 and taken from zero, fits, the lowest one
+-- too, and is as far from zero as before.
 -- Assumes nothing.
 use mathlib.Core.Path.{_≡_}
 use mathlib.Core.Bool.{true, false, true≢false}
@@ -18,6 +19,7 @@ record Turned (z turned : ℤ) : Type 0 where
   wide : SFits w64 z
   bits : SFits w64 turned
   plain : T (nonNeg turned) × Fits w64 (natAbs turned)
+  far : natAbs turned ≡ natAbs z
 
 from-zero : (z : ℤ) → SFits w32 z → ltZ z (pos 0) ≡ true → Turned z (pos 0 -ℤ z)
 from-zero (pos n) f below = absurd (omega (arith, ltb-true n 0 below))
@@ -25,6 +27,7 @@ from-zero (negsuc n) f below = record {
   wide = record { sfits = omega arith };
   bits = record { sfits = omega arith };
   plain = (tt, record { fits = omega arith });
+  far = omega arith;
 }
 
 not-below : (z : ℤ) → SFits w32 z → ltZ z (pos 0) ≡ false → T (nonNeg z) × Fits w64 (natAbs z)
@@ -46,7 +49,9 @@ cast-result-2 c =
     (turned c .plain)
 
 returns : tie.Need-returns
-returns c = search needs
+returns c =
+    rw (toZ-ofZ w32 (c .before .args .z) (c .before .fits .z), toZ-ofZ w64 _ (turned c .wide), toZ-ofZ w64 _ (turned c .bits))
+    (turned c .far)
 
 cast-result-3 : tie.Need-cast-result-3
 cast-result-3 c =

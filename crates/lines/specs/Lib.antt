@@ -1,0 +1,2 @@
+-- Texts laid into a lent line, one behind the other.
+pub mod Lines

@@ -1,0 +1,2 @@
+-- A part of a capture as texts.
+pub mod Parts

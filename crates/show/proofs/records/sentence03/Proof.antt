@@ -1,0 +1,34 @@
+-- `show::records::sentence03` meets its contract: the row holds the record's numbers, and the temperature comes behind.
+-- Assumes nothing.
+use borrow.Author.Needs.{needs, sfits-of}
+use mir.Syntax.{w32}
+use mir.ValLaws.{toZ-ofZ}
+use Rattle.rules.specs.Sentences.{numbers03}
+use Rattle.lines.proofs.Typed.{_then_}
+use Rattle.show.proofs.records.sentence03.Statement.{statement}
+use Rattle.show.proofs.records.sentence03.Tie as tie
+
+slice-aggregate-numbers : tie.Need-slice-aggregate-numbers
+slice-aggregate-numbers c = search needs
+
+numbers-requires : tie.Need-numbers-requires
+numbers-requires c κs = search needs
+
+temperature-requires : tie.Need-temperature-requires
+temperature-requires c κs = search needs
+
+same-length : tie.Need-same-length
+same-length c = search needs
+
+returns : tie.Need-returns
+unfolding numbers03
+returns c =
+    let t = c .before .before in
+    let n = t .before .before .before .before .before in
+    let temp = n .before .before .before .before .args .r .temp in
+    n .numbers .ensures then rw (toZ-ofZ w32 temp (sfits-of (t .before .struct-told .given .1 .1 .1 .1 .1 .1 .1 .1 .0 .1))) at (t .temperature .ensures)
+
+pub sentence03-spec : {M : Type 1} → statement M
+sentence03-spec =
+    tie.close
+    (tie.spec slice-aggregate-numbers numbers-requires temperature-requires same-length returns)

@@ -1,0 +1,2 @@
+-- A frame as texts.
+pub mod Texts
