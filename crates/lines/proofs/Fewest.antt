@@ -18,11 +18,13 @@ use Rattle.lines.specs.Lines.{shortest}
 last : (n : ℕ) → glyph (n % 10) ≡ code "0" + n % 10
 last n = rw (lt-ltb (n % 10) 10 (mod-lt n (omega arith)))
 
+-- the digits of a number that has no more than k of them
 digits-zeros : (k n : ℕ) → n < 10 ^ k → digits 10 k n ≡ withZeros k n
 unfolding withZeros
 digits-zeros zero n h = refl
 digits-zeros (suc k) n h = ap₂ (λ (ds : List ℕ) (d : ℕ). ds ++ d ∷ []) (digits-zeros k (n / 10) (tenfold k n h)) (last n) ∙ sym (zeros-last k n h)
 
+-- where it has no fewer, they are the fewest of up to w
 shortest-zeros : (w k n : ℕ) → 1 ≤ k → k ≤ w → n < 10 ^ k → (1 < k → 10 ^ (k - 1) ≤ n) → shortest w n ≡ withZeros k n
 unfolding shortest
 shortest-zeros zero k n l h below least = absurd (omega arith)
@@ -37,7 +39,7 @@ shortest-zeros (suc (suc w)) k n l h below least = ⊎-elim all (λ s. less s (s
     less : k < suc (suc w) → shortest (suc w) n ≡ withZeros k n → shortest (suc (suc w)) n ≡ withZeros k n
     less s e = rw (lt-ltb n (10 ^ suc w) (lt-of-lt-of-le below (pow-le-pow-right (omega arith) (omega arith)))) e
 
--- a number of 64 bits has no more than 20
+-- a number of 64 bits has no more than 20 digits
 few : (k n : ℕ) → n < 2 ^ 64 → Fewest 10 1 n k → k ≤ 20
 few k n h f = by-contra k 20 (λ more. omega (arith, f .2 (omega arith), pow-le-pow-right {n = 10} (omega arith) {i = 20} {j = k - 1} (omega arith)))
 
