@@ -1,1 +1,2 @@
+-- What stands at the head of some bytes.
 pub mod Seen

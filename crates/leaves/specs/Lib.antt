@@ -1,1 +1,2 @@
+-- What the leaves give back.
 pub mod Leaves

@@ -1,1 +1,2 @@
+-- What the numbers in fields give back.
 pub mod Fields

@@ -1,1 +1,2 @@
+-- What a walk along starts finds.
 pub mod Sought

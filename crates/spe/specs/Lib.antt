@@ -1,1 +1,2 @@
+-- What the reader of a report gives back.
 pub mod Report

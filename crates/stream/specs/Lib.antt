@@ -1,1 +1,2 @@
+-- What the parts of a call on a stream give back.
 pub mod Turns
