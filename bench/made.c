@@ -218,6 +218,16 @@ static void put_decimal(struct frame *f, uint64_t *state, unsigned width,
         put(f, '0' + value / unit % 10);
 }
 
+/* The same for many fields, each with its width, its least and its most. */
+static void put_decimals(struct frame *f, uint64_t *state,
+                         const unsigned (*fields)[3], unsigned many, int loose)
+{
+    unsigned i;
+
+    for (i = 0; i < many; i++)
+        put_decimal(f, state, fields[i][0], fields[i][1], fields[i][2], loose);
+}
+
 static void sentence_02(struct frame *f, uint64_t *state, int loose)
 {
     static const unsigned fields[13][3] = {
@@ -225,11 +235,9 @@ static void sentence_02(struct frame *f, uint64_t *state, int loose)
         {3, 0, 999}, {3, 0, 255}, {3, 0, 999}, {1, 1, 9}, {1, 0, 9},
         {2, 0, 99}, {1, 0, 1}, {5, 0, 99999}
     };
-    unsigned i;
 
     put_text(f, "$APA02");
-    for (i = 0; i < 13; i++)
-        put_decimal(f, state, fields[i][0], fields[i][1], fields[i][2], loose);
+    put_decimals(f, state, fields, 13, loose);
     put_sums(f);
 }
 
@@ -239,11 +247,9 @@ static void sentence_03(struct frame *f, uint64_t *state, int loose)
         {3, 0, 999}, {3, 0, 999}, {3, 0, 999}, {3, 0, 999}, {3, 0, 999},
         {4, 0, 9999}, {3, 0, 999}, {1, 1, 5}
     };
-    unsigned i;
 
     put_text(f, "$APA03");
-    for (i = 0; i < 8; i++)
-        put_decimal(f, state, fields[i][0], fields[i][1], fields[i][2], loose);
+    put_decimals(f, state, fields, 8, loose);
     put(f, ',');
     put_one_of(f, state, "+++-");
     put_digits(f, state, loose ? 1 + below(state, 3) : 3);

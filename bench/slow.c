@@ -124,16 +124,23 @@ static size_t parts_of(char *text, char *part[40])
     }
 }
 
+/* Whether each of the parts is digits, at most as many as its width says. */
+static int all_digits(char **p, const size_t *w, size_t many)
+{
+    size_t i;
+
+    for (i = 0; i < many; i++)
+        if (!digits(p[i], w[i]))
+            return 0;
+    return 1;
+}
+
 static int slow_02(char **p, size_t many)
 {
     static const size_t w[13] = {5, 3, 4, 4, 4, 3, 3, 3, 1, 1, 2, 1, 5};
-    size_t i;
 
-    if (many != 14)
+    if (many != 14 || !all_digits(p + 1, w, 13))
         return 0;
-    for (i = 0; i < 13; i++)
-        if (!digits(p[1 + i], w[i]))
-            return 0;
     return atoi(p[7]) <= 255 && atoi(p[9]) >= 1 && atoi(p[12]) <= 1;
 }
 
@@ -141,13 +148,9 @@ static int slow_03(char **p, size_t many)
 {
     static const size_t w[8] = {3, 3, 3, 3, 3, 4, 3, 1};
     char *point;
-    size_t i;
 
-    if (many != 10)
+    if (many != 10 || !all_digits(p + 1, w, 8))
         return 0;
-    for (i = 0; i < 8; i++)
-        if (!digits(p[1 + i], w[i]))
-            return 0;
     if (atoi(p[8]) < 1 || atoi(p[8]) > 5 || !one_of(p[9][0], "+-"))
         return 0;
     point = strchr(p[9], '.');

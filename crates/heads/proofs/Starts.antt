@@ -14,7 +14,6 @@ use Rattle.stream_rules.specs.Rule.{byHead}
 use Rattle.stream_rules.specs.Settled.{settled}
 use Rattle.head_laws.proofs.PacketStarts.{Marks, few-marks}
 use Rattle.heads.specs.Seen.{seen, asWhole, wholeIn}
-use Rattle.heads.specs.declared.Seen as SeenType
 use Rattle.heads.specs.declared.Seen.the-variants.{Good as SeenGood, Bad, Undecided}
 
 module _ (family : ℕ) (bs : List ℕ) where

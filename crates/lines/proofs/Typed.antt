@@ -4,11 +4,10 @@
 use Prim.Native.Nat.{ℕ, _+_, _≤_, _<_}
 use mathlib.Core.Path.{_≡_, refl, sym, _∙_}
 use mathlib.Core.List.{List, [], _∷_, _++_, flatMap}
-use native.Mathlib.Numerals.{add-one}
 use borrow.Author.Tests.{le-leb, lt-leb}
-use lib.ListN.{length, drop, getD, drop-of-length-le}
-use lib.Seq.{drop-cons}
+use lib.ListN.{length, drop, getD}
 use Rattle.pens.specs.Pens.{laid}
+use Rattle.leaves.proofs.Steps.{at as from-place, done}
 use Rattle.lines.specs.Lines.{typedOne, typed, Types}
 
 pub one-fits : (text line : List ℕ) (at : ℕ) → at + length text ≤ length line → typed (text ∷ []) (line, at) ≡ (laid at text line, at + length text)
@@ -37,8 +36,8 @@ pub record Left (texts : List (List ℕ)) (line : List ℕ) (at : ℕ) (whole : 
 module _ (f : ℕ → List (List ℕ)) (i : ℕ) (xs : List ℕ) {line : List ℕ} {at : ℕ} {whole : List ℕ × ℕ} (left : Left (flatMap f (drop i xs)) line at whole) where
   pub each-step : {after : List ℕ} {place : ℕ} → i < length xs → Types (f (getD xs i 0)) line at after place → Left (flatMap f (drop (i + 1) xs)) after place whole
   unfolding flatMap
-  each-step h p = record { makes = rw (p .leaves, add-one) (sym (typed-append (f (getD xs i 0)) _ (line, at)) ∙ (rw (drop-cons xs i 0 h) at (left .makes))) }
+  each-step h p = record { makes = rw (p .leaves) (sym (typed-append (f (getD xs i 0)) _ (line, at)) ∙ (rw (from-place xs i h) at (left .makes))) }
 
   pub all-typed : length xs ≤ i → (line, at) ≡ whole
   unfolding flatMap typed
-  all-typed h = rw (drop-of-length-le xs h) at (left .makes)
+  all-typed h = rw (done xs i h) at (left .makes)

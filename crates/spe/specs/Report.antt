@@ -9,7 +9,6 @@ use Rattle.rules.specs.Bytes.{first}
 use Rattle.rules.specs.Numbers.{decimal, paddedNumber, pointedNumber}
 use Rattle.rules.specs.Status.{field, frontReadable, metersReadable, readable, statusOf, isStatus, dataOf}
 use Rattle.rules.specs.Answers.{notGood}
-use Rattle.rules.specs.declared.Status as StatusType
 use Rattle.rules.specs.declared.Frame.the-variants.{Status}
 use Rattle.rules.specs.declared.Reading.{Reading}
 use Rattle.rules.specs.declared.Reading.the-variants.{Good, Refused}

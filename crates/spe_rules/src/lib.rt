@@ -7,7 +7,7 @@ ghost use Rattle.rules.specs.Bytes.{ascii, oneOf};
 ghost use Rattle.rules.specs.Codes.{isCode, isAckCode};
 ghost use Rattle.rules.specs.Status.{by, statusInRange};
 
-// The command codes, a bit for each: seventeen from 0 on, and from bit 32 on three from 128 on.
+// The command codes: bit c for a code c below 32, and from bit 32 on a bit for each from 128 on.
 const CODES: u64 = 0x0001_000C_0003_FFFE;
 
 // Whether c is one of the twenty command codes. A bit is looked up, and no test has to be guessed.

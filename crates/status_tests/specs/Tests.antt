@@ -5,7 +5,7 @@ use mathlib.Core.Bool.{Bool, true, _&&_, _||_, cond, not}
 use mathlib.Core.List.{List, [], _∷_}
 use lib.Dec.{eqb, leb}
 use lib.ListN.{getD}
-use Rattle.rules.specs.Bytes.{ascii, oneOf, between, every, first, same}
+use Rattle.rules.specs.Bytes.{ascii, oneOf, every, first, same}
 use Rattle.rules.specs.Status.{field, joined, cut, widths, readable, statusInRange, statusOf}
 
 -- b may stand behind a in a padded number: a space only behind a space

@@ -4,7 +4,6 @@ use leaves::further;
 use leaves::text;
 use pens::put_bytes;
 use rules::Frame;
-use seek::Hit;
 use seek::Sought;
 use seek::seek;
 ghost use mathlib.Core.Path.{_≡_};
