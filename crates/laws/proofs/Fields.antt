@@ -2,7 +2,7 @@
 -- commas stand. By induction on the texts or the widths, over whatever stands in front of them. Assumes nothing.
 use Prim.Native.Nat.{ℕ, suc, _+_, _≤_}
 use mathlib.Core.Path.{_≡_, refl, sym, ap, ap₂, _∙_}
-use mathlib.Core.Bool.{Bool, _&&_, and-true, and-assoc}
+use mathlib.Core.Bool.{Bool, _&&_, and-true}
 use mathlib.Core.List.{List, [], _∷_, _++_, map, append-assoc}
 use native.Mathlib.Numerals.{add-one}
 use native.Mathlib.Omega.{arith}
@@ -62,13 +62,3 @@ commas-at a (w ∷ ws) bs l =
     (sym (take-append-drop w (drop (a + 1) bs)) ∙ ap (λ (d : List ℕ). text ++ d) (drop-drop w (a + 1) bs))
     ∙ same-front text (drop (a + 1 + w) bs) (joined (cut (a + 1 + w) ws bs))
     ∙ commas-at (a + 1 + w) ws bs (omega arith))
-
--- the same tests, gathered from the left
-abbrev pub andCommas : Bool → ℕ → List ℕ → List ℕ → Bool
-andCommas b a [] bs = b && eqb (getD bs a 0) 44
-andCommas b a (w ∷ ws) bs = andCommas (b && eqb (getD bs a 0) 44) (a + 1 + w) ws bs
-
-pub and-commas : (b : Bool) (a : ℕ) (ws bs : List ℕ) → andCommas b a ws bs ≡ (b && commasAt a ws bs)
-and-commas b a [] bs = refl
-and-commas b a (w ∷ ws) bs =
-    and-commas (b && eqb (getD bs a 0) 44) (a + 1 + w) ws bs ∙ and-assoc b (eqb (getD bs a 0) 44) (commasAt (a + 1 + w) ws bs)

@@ -1,3 +1,2 @@
--- `Rows` has what the readers of numbers need. `Laws` has what a caller learns of a text.
+-- `Rows` has what the reader of a number needs.
 pub mod Rows
-pub mod Laws

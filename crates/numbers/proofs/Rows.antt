@@ -1,4 +1,4 @@
--- What the readers of numbers need of a row of digits: one digit more, and when the row is a number.
+-- What the reader of a number needs of a row of digits: one digit more, and when the row is a number.
 -- Assumes nothing.
 use Prim.Native.Nat.{ℕ, _+_, _-_, _*_, _^_, _≤_, _<_}
 use mathlib.Core.Path.{_≡_, sym, ap, subst⁻¹, _∙_}

@@ -1,2 +1,3 @@
--- `Frames` has when bytes are a packet or a report and when they are not, for the readers of both families.
-pub mod Frames
+-- Rows of bytes, weighed: the numbers that the rules read from them, and those of a report's data.
+pub mod Weighed
+pub mod Values

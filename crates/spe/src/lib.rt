@@ -1,169 +1,73 @@
-// Reads one frame of an SPE amplifier: a reply of family 1, or a command of family 3.
+// Reads one frame of an SPE amplifier: a reply of family 1, or a command of family 3. A frame is tested
+// as a whole, and only what a good one says is read.
 use leaves::text;
-use numbers::one_digit;
-use numbers::padded_number;
-use numbers::pointed_number;
-use numbers::two_digits;
+use leaves::wide;
 use rules::Frame;
 use rules::Reading;
 use rules::Status;
-use spe_rules::status_in_range;
 use spe_tests::is_ack;
 use spe_tests::is_command;
-use status_tests::is_report;
+use status_tests::is_status;
 ghost use mathlib.Core.Path.{_≡_};
+ghost use mathlib.Core.Bool.{true};
+ghost use mathlib.Core.List.{_++_};
+ghost use Prim.Native.Nat.{_+_, _≤_};
 ghost use lib.ListN.{length};
-ghost use Rattle.rules.specs.Bytes.{same};
-ghost use Rattle.rules.specs.Status.{joined, cut, widths};
+ghost use Rattle.rules.specs.Bytes.{part};
+ghost use Rattle.rules.specs.Status.{readable, statusOf};
 ghost use Rattle.rules.specs.Answers.{Reads};
-ghost use Rattle.spe.specs.Report.{FieldsOf, FrontOf, MetersOf, reportIn};
+ghost use Rattle.spe.specs.Report.{weighed, reportIn};
 
-// The values of a report's fields, and whether its texts could be read.
-struct Fields {
-    readable: bool,
-    status: Status,
-}
-
-// The numbers of fields 1 and 5 to 8, and whether each is one.
-struct Front {
-    good: bool,
-    id: u8,
-    input: u8,
-    band: u8,
-    transmit: u8,
-    receive: u8,
-}
-
-// The eight numbers of fields 10 to 17, and whether each is one.
-struct Meters {
-    good: bool,
-    watts: u32,
-    swratu: u32,
-    swrant: u32,
-    volts: u32,
-    amperes: u32,
-    upper: u32,
-    lower: u32,
-    combiner: u32,
-}
-
-// Whether commas stand where the widths of the fields put them.
-fn has_commas(d: &[u8]) -> bool
-    requires { ⌜ length (now d) ≡ 67 ⌝ }
-    ensures { λ r. ⌜ r ≡ same (now (d .entry)) (joined (cut 0 widths (now (d .entry)))) ⌝ }
+// The number in two bytes of a good report: a digit counts as itself, a space before it as nothing.
+fn two_at(d: &[u8], a: usize) -> u8
+    requires { ⌜ a + 2 ≤ length (now d) ⌝ }
+    ensures { λ r. ⌜ r ≡ weighed 0 (part a 2 (now (d .entry))) ⌝ }
 {
-    (d[0] == b',')
-        & (d[4] == b',')
-        & (d[6] == b',')
-        & (d[8] == b',')
-        & (d[10] == b',')
-        & (d[12] == b',')
-        & (d[15] == b',')
-        & (d[18] == b',')
-        & (d[21] == b',')
-        & (d[23] == b',')
-        & (d[28] == b',')
-        & (d[34] == b',')
-        & (d[40] == b',')
-        & (d[45] == b',')
-        & (d[50] == b',')
-        & (d[54] == b',')
-        & (d[58] == b',')
-        & (d[62] == b',')
-        & (d[64] == b',')
-        & (d[66] == b',')
+    d[a] % 16 * 10 + d[a + 1] % 16
 }
 
-// The eight numbers of a report's data.
-fn read_meters(d: &[u8]) -> Meters
-    requires { ⌜ length (now d) ≡ 67 ⌝ }
-    ensures { λ r. ⌜ MetersOf (now (d .entry)) r ⌝ }
+// The number in two bytes, and one at another place.
+fn three_at(d: &[u8], a: usize, b: usize) -> u32
+    requires { ⌜ (a + 2 ≤ length (now d)) × (b + 1 ≤ length (now d)) ⌝ }
+    ensures { λ r. ⌜ r ≡ weighed 0 (part a 2 (now (d .entry)) ++ part b 1 (now (d .entry))) ⌝ }
 {
-    let watts = padded_number(text(d, 24, 4));
-    let swratu = pointed_number(text(d, 29, 5));
-    let swrant = pointed_number(text(d, 35, 5));
-    let volts = pointed_number(text(d, 41, 4));
-    let amperes = pointed_number(text(d, 46, 4));
-    let upper = padded_number(text(d, 51, 3));
-    let lower = padded_number(text(d, 55, 3));
-    let combiner = padded_number(text(d, 59, 3));
-    Meters {
-        good: watts.good
-            & swratu.good
-            & swrant.good
-            & volts.good
-            & amperes.good
-            & upper.good
-            & lower.good
-            & combiner.good,
-        watts: watts.count,
-        swratu: swratu.count,
-        swrant: swrant.count,
-        volts: volts.count,
-        amperes: amperes.count,
-        upper: upper.count,
-        lower: lower.count,
-        combiner: combiner.count,
-    }
+    wide(two_at(d, a)) * 10 + wide(d[b] % 16)
 }
 
-// The digits of a report's data before its eight numbers.
-fn read_front(d: &[u8]) -> Front
-    requires { ⌜ length (now d) ≡ 67 ⌝ }
-    ensures { λ r. ⌜ FrontOf (now (d .entry)) r ⌝ }
+// The number in two bytes, and two at another place.
+fn four_at(d: &[u8], a: usize, b: usize) -> u32
+    requires { ⌜ (a + 2 ≤ length (now d)) × (b + 2 ≤ length (now d)) ⌝ }
+    ensures { λ r. ⌜ r ≡ weighed 0 (part a 2 (now (d .entry)) ++ part b 2 (now (d .entry))) ⌝ }
 {
-    let id = two_digits(d[1], d[2]);
-    let input = one_digit(d[11]);
-    let band = two_digits(d[13], d[14]);
-    let transmit = one_digit(d[16]);
-    let receive = one_digit(d[19]);
-    Front {
-        good: id.good
-            & (d[3] == b'K')
-            & input.good
-            & band.good
-            & transmit.good
-            & receive.good
-            & (d[20] == b'r'),
-        id: id.value,
-        input: input.value,
-        band: band.value,
-        transmit: transmit.value,
-        receive: receive.value,
-    }
+    wide(two_at(d, a)) * 100 + wide(two_at(d, b))
 }
 
-// The fields of a report's data, by the places where the widths put them.
-fn read_fields(d: &[u8]) -> Fields
-    requires { ⌜ length (now d) ≡ 67 ⌝ }
-    ensures { λ r. ⌜ FieldsOf (now (d .entry)) r ⌝ }
+// The values of a report's data that can be read, by the places where the widths put its fields.
+fn read_values(d: &[u8]) -> Status
+    requires { ⌜ (length (now d) ≡ 67) × (readable (now d) ≡ true) ⌝ }
+    ensures { λ r. ⌜ r ≡ statusOf (now (d .entry)) ⌝ }
 {
-    let front = read_front(d);
-    let meters = read_meters(d);
-    Fields {
-        readable: front.good & meters.good,
-        status: Status {
-            id: front.id,
-            state: d[5],
-            direction: d[7],
-            bank: d[9],
-            input: front.input,
-            band: front.band,
-            transmit: front.transmit,
-            tuner: d[17],
-            receive: front.receive,
-            level: d[22],
-            watts: meters.watts,
-            swratu: meters.swratu,
-            swrant: meters.swrant,
-            volts: meters.volts,
-            amperes: meters.amperes,
-            upper: meters.upper,
-            lower: meters.lower,
-            combiner: meters.combiner,
-            warning: d[63],
-            alarm: d[65],
-        },
+    Status {
+        id: two_at(d, 1),
+        state: d[5],
+        direction: d[7],
+        bank: d[9],
+        input: d[11] % 16,
+        band: two_at(d, 13),
+        transmit: d[16] % 16,
+        tuner: d[17],
+        receive: d[19] % 16,
+        level: d[22],
+        watts: four_at(d, 24, 26),
+        swratu: four_at(d, 29, 32),
+        swrant: four_at(d, 35, 38),
+        volts: three_at(d, 41, 44),
+        amperes: three_at(d, 46, 49),
+        upper: three_at(d, 51, 53),
+        lower: three_at(d, 55, 57),
+        combiner: three_at(d, 59, 61),
+        warning: d[63],
+        alarm: d[65],
     }
 }
 
@@ -171,21 +75,10 @@ fn read_fields(d: &[u8]) -> Fields
 fn read_report(s: &[u8]) -> Reading
     ensures { λ r. ⌜ r ≡ reportIn (now (s .entry)) ⌝ }
 {
-    if !is_report(s) {
+    if !is_status(s) {
         return Reading::Refused(8);
     }
-    let data = text(s, 4, 67);
-    if !has_commas(data) {
-        return Reading::Refused(8);
-    }
-    let fields = read_fields(data);
-    let status = fields.status;
-    if !fields.readable {
-        return Reading::Refused(8);
-    }
-    if !status_in_range(status) {
-        return Reading::Refused(8);
-    }
+    let status = read_values(text(s, 4, 67));
     Reading::Good(Frame::Status(status))
 }
 

@@ -1,6 +1,5 @@
-// Tests of a status report as a whole, which read no field: whether it is a report's frame, and whether it
-// is a good status report. The second is for loops over many frames. Its helpers leave no loop early and
-// join their tests by `&` and `|`, so that the compiler tests many bytes at once.
+// The test of a status report as a whole, which reads no field: its frame, then its data. Its helpers leave
+// no loop early and join their tests by `&` and `|`, so that the compiler tests many bytes at once.
 use leaves::sum;
 use leaves::text;
 use leaves::wide;
@@ -12,7 +11,7 @@ ghost use Rattle.rules.specs.Status.{statusFrame, dataOf, isStatus};
 ghost use Rattle.status_tests.specs.Tests.{allFollow, lettersGood, limitsGood, dataGood};
 
 // Whether the bytes are a report's frame around their own data: marks, count, sums, 0D 0A.
-pub fn is_report(s: &[u8]) -> bool
+fn is_report(s: &[u8]) -> bool
     ensures { λ r. ⌜ r ≡ same (now (s .entry)) (statusFrame (dataOf (now (s .entry)))) ⌝ }
 {
     if s.len() != 75 {
