@@ -7,11 +7,11 @@ use mathlib.Core.Bool.{true}
 use mathlib.Core.List.{List, _++_}
 use native.Mathlib.Omega.{arith}
 use lib.ListN.{length, take, drop, getD}
-use Rattle.rules.specs.Bytes.{every, first, part}
-use Rattle.rules.specs.Numbers.{isDigit, decimal, padded, paddedNumber, pointed, pointedNumber}
+use Rattle.rules.specs.Bytes.{first, part}
+use Rattle.rules.specs.Numbers.{isDigit, padded, paddedNumber, pointed, pointedNumber}
 use Rattle.laws.proofs.Lists.{elements, part-elements}
 use Rattle.spe.specs.Report.{weighed}
-use Rattle.spe.proofs.Weighed.{digit-weighed, digits-weighed, padded-weighed, pointed-weighed}
+use Rattle.spe.proofs.Weighed.{digit-weighed, padded-weighed, pointed-weighed}
 
 module _ (d : List ℕ) (h : length d ≡ 67) where
   -- the text at a place is the bytes there
