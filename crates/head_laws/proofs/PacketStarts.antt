@@ -10,6 +10,7 @@ use native.Mathlib.Decide.{ℕ-discrete}
 use native.Mathlib.Omega.{arith}
 use lib.Dec.{eqb, leb, ltb, lit≤}
 use lib.ListN.{length, take, drop, getD, length-take, length-drop, length-append}
+use borrow.Author.Count.{below-none, below-more}
 use borrow.Author.Tests.{eq-eqb, ne-eqb, lt-ltb, le-ltb, le-leb}
 use Rattle.rules.specs.Bytes.{total}
 use Rattle.rules.specs.Codes.{packet, isAck, isCommand}
@@ -111,9 +112,15 @@ needs-none family count other none =
       | no not-one ↦ rw (ne-eqb family 1 not-one)
     ])
 
--- The first k bytes are marks; for three, from what stands at each place.
+-- The first k bytes are marks: for none, for one more, and for three, from what stands at each place.
 abbrev pub Marks : ℕ → ℕ → List ℕ → Type 0
 Marks family k bs = (i : ℕ) → i < k → getD bs i 0 ≡ markOf family
+
+pub no-marks : (family : ℕ) (bs : List ℕ) → Marks family 0 bs
+no-marks family bs = below-none (λ (i : ℕ). getD bs i 0 ≡ markOf family)
+
+pub one-more : (family : ℕ) (bs : List ℕ) (k : ℕ) → Marks family k bs → getD bs k 0 ≡ markOf family → Marks family (k + 1) bs
+one-more family bs k = below-more (λ (i : ℕ). getD bs i 0 ≡ markOf family) k
 
 pub three-marks : (family : ℕ) (bs : List ℕ) → getD bs 0 0 ≡ markOf family → getD bs 1 0 ≡ markOf family → getD bs 2 0 ≡ markOf family
     → Marks family 3 bs

@@ -3,10 +3,10 @@
 use leaves::text;
 use rules::Frame;
 use rules::Reading;
+use starts::bytes_needed;
 use starts::mark_of;
 use starts::payload_bytes;
 ghost use mathlib.Core.Path.{_≡_};
-ghost use Rattle.stream_rules.specs.Heads.{needs};
 ghost use Rattle.heads.specs.Seen.{seen, wholeIn};
 
 pub enum Seen {
@@ -15,19 +15,6 @@ pub enum Seen {
     // a bad start: how many bytes settled that
     Bad(usize),
     Undecided,
-}
-
-// How many bytes a count needs; 0 where it is not allowed.
-fn bytes_needed(family: u8, count: u8) -> usize
-    ensures { λ r. ⌜ r ≡ needs family count ⌝ }
-{
-    if count == 0x01 {
-        return 6;
-    }
-    if (family == 1) & (count == 0x43) {
-        return 75;
-    }
-    0
 }
 
 // What the first n bytes are, as a whole.

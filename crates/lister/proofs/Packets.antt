@@ -2,8 +2,8 @@
 -- count of a reply tells an acknowledgement, six bytes, from a report, 75 bytes.
 -- Assumes nothing.
 use Prim.Native.Nat.{ℕ, _≤_}
-use mathlib.Core.Path.{_≡_, refl, sym, ap, _∙_}
-use mathlib.Core.Bool.{Bool, true, false, _||_, cond, or-false}
+use mathlib.Core.Path.{_≡_, refl, _∙_}
+use mathlib.Core.Bool.{true, false}
 use mathlib.Core.List.{List}
 use mathlib.Core.Logic.{⊎-elim}
 use native.Mathlib.Decide.{ℕ-discrete}
@@ -11,50 +11,15 @@ use native.Mathlib.Omega.{arith}
 use borrow.Author.Tests.{ne-eqb}
 use lib.ListN.{length, take, getD}
 use lib.Seq.{length-take-le}
-use Rattle.rules.specs.Answers.{isGood, readOne, readFamily1, readFamily3}
+use Rattle.rules.specs.Answers.{isGood, readOne}
 use Rattle.rules.specs.Codes.{isAck, isCommand}
-use Rattle.rules.specs.Status.{dataOf, statusOf, isStatus}
-use Rattle.rules.specs.declared.Frame.the-variants.{Ack, Status, Command}
-use Rattle.rules.specs.declared.Reading.the-variants.{Good, Refused}
+use Rattle.rules.specs.Status.{isStatus}
 use Rattle.stream_rules.specs.Heads.{needs, lengthAt}
-use Rattle.spe_tests.proofs.Frames.{not-ack}
-use Rattle.status_tests.proofs.Frames.{not-status}
-use Rattle.frames.proofs.Families.{family1, family3}
+use Rattle.frames.proofs.Goods.{command-is, ack-is, report-is}
 use Rattle.head_laws.proofs.Heads.{good-head}
 use Rattle.head_laws.proofs.PacketStarts.{needs-packet, needs-report, needs-none}
 use Rattle.lister.specs.Sizes.{Spe, sizeAt}
 use Rattle.lister.proofs.Sizes.{size-none, size-good, size-refused}
-
--- a good command is one, and a good reply is an acknowledgement or a report,
-a-command : (s : List ℕ) → isCommand s ≡ isGood (readFamily3 s)
-unfolding readFamily3
-a-command s = by (isCommand s)
-  where
-    by : (a : Bool) → a ≡ isGood (cond a (Good (Command (getD s 4 0))) (Refused 8))
-    by true = refl
-    by false = refl
-
-a-reply : (s : List ℕ) → (isAck s || isStatus s) ≡ isGood (readFamily1 s)
-unfolding readFamily1
-a-reply s = by (isAck s) (isStatus s)
-  where
-    by : (a b : Bool) → (a || b) ≡ isGood (cond a (Good (Ack (getD s 4 0))) (cond b (Good (Status (statusOf (dataOf s)))) (Refused 8)))
-    by true b = refl
-    by false true = refl
-    by false false = refl
-
-command-is : (s : List ℕ) → isGood (readOne 3 s) ≡ isCommand s
-command-is s = sym (a-command s ∙ ap isGood (family3 s))
-
-reply-is : (s : List ℕ) → isGood (readOne 1 s) ≡ (isAck s || isStatus s)
-reply-is s = sym (a-reply s ∙ ap isGood (family1 s))
-
--- by its length
-ack-is : (s : List ℕ) → length s ≡ 6 → isGood (readOne 1 s) ≡ isAck s
-ack-is s six = reply-is s ∙ ap (λ b. isAck s || b) (not-status s (λ e. omega (arith, e))) ∙ or-false (isAck s)
-
-report-is : (s : List ℕ) → length s ≡ 75 → isGood (readOne 1 s) ≡ isStatus s
-report-is s long = reply-is s ∙ ap (λ a. a || isStatus s) (not-ack s (λ e. omega (arith, e)))
 
 -- a packet declares what its count needs
 declares : (family : ℕ) (bs : List ℕ) → (family ≡ 2 → ⊥) → lengthAt family bs ≡ needs family (getD bs 3 0)
@@ -79,7 +44,7 @@ module _ (bs : List ℕ) where
   -- six bytes that are an acknowledgement, or, with its count, are none
   module _ (there : 6 ≤ length bs) where
     six : isGood (readOne 1 (take 6 bs)) ≡ isAck (take 6 bs)
-    six = ack-is (take 6 bs) (length-take-le 6 bs there)
+    six = ack-is (take 6 bs) (λ e. omega (arith, e, length-take-le 6 bs there))
 
     pub ack : isAck (take 6 bs) ≡ true → 6 ≡ sizeAt 1 bs
     ack e = size-good 1 bs 6 there (six ∙ e)

@@ -7,7 +7,6 @@ use rules::Sentence03;
 use rules::Sentence05;
 use rules::Status;
 use stream_rules::Answer;
-use stream_rules::Ready;
 ghost use mathlib.Core.Path.{_≡_};
 ghost use mathlib.Core.List.{[], _∷_, _++_, map};
 ghost use lib.IntN.{pos};
@@ -16,7 +15,7 @@ ghost use Prim.Native.Nat.{_+_, _≤_};
 ghost use Rattle.rules.specs.Answers.{said, statusNumbers, numbers05, values};
 ghost use Rattle.rules.specs.Sentences.{numbers02, numbers03};
 ghost use Rattle.stream_rules.specs.Streams.{saidToFeed};
-ghost use Rattle.rows.specs.Rows.{frameKind, frameCode, whole, head, rowWithout, rowFed, rowRead, laidAt, LaysRow, Lays};
+ghost use Rattle.rows.specs.Rows.{frameKind, frameCode, whole, head, row, rowWithout, rowFed, rowRead, laidAt, LaysRow, Lays};
 
 // The numbers from a place on.
 fn put_numbers(numbers: &mut [i64], at: usize, what: &[u32])
@@ -210,11 +209,18 @@ fn row_length(frame: Frame) -> usize
     }
 }
 
-// The row of a frame that is handed out. Refusal 4 where it has no room.
-fn lay_ready(ready: Ready, numbers: &mut [i64]) -> u32
-    ensures { λ r. ⌜ LaysRow (rowFed (Answer.Ready ready)) (now (numbers .entry)) r (now (numbers .exit)) ⌝ }
+// The row of a frame. Refusal 4 where it has no room. (The frame comes alone: in a struct it would be
+// copied once more.)
+fn lay_frame(
+    frame: Frame,
+    taken: usize,
+    start: u32,
+    skipped: u32,
+    size: usize,
+    numbers: &mut [i64],
+) -> u32
+    ensures { λ r. ⌜ LaysRow (row taken start skipped size frame) (now (numbers .entry)) r (now (numbers .exit)) ⌝ }
 {
-    let frame = ready.frame;
     if numbers.len() < row_length(frame) {
         return 4;
     }
@@ -222,10 +228,10 @@ fn lay_ready(ready: Ready, numbers: &mut [i64]) -> u32
         numbers,
         kind(frame),
         code(frame),
-        ready.taken,
-        ready.start,
-        ready.skipped,
-        ready.length,
+        taken,
+        start,
+        skipped,
+        size,
     );
     put_values(numbers, frame);
     0
@@ -247,7 +253,17 @@ pub fn lay_answer(answer: Answer, numbers: &mut [i64]) -> u32
     ensures { λ r. ⌜ Lays (saidToFeed answer) (rowFed answer) (now (numbers .entry)) r (now (numbers .exit)) ⌝ }
 {
     match answer {
-        Answer::Ready(ready) => lay_ready(ready, numbers),
+        Answer::Ready(ready) => {
+            let frame = ready.frame;
+            lay_frame(
+                frame,
+                ready.taken,
+                ready.start,
+                ready.skipped,
+                ready.length,
+                numbers,
+            )
+        }
         Answer::More(taken) => lay_taken(5, taken, numbers),
         Answer::Done(taken) => lay_taken(6, taken, numbers),
         Answer::Refused(n) => n as u32,
@@ -259,16 +275,7 @@ pub fn lay_reading(reading: Reading, size: usize, numbers: &mut [i64]) -> u32
     ensures { λ r. ⌜ Lays (said reading) (rowRead size reading) (now (numbers .entry)) r (now (numbers .exit)) ⌝ }
 {
     match reading {
-        Reading::Good(frame) => {
-            let ready = Ready {
-                taken: 0,
-                start: 0,
-                skipped: 0,
-                length: size,
-                frame,
-            };
-            lay_ready(ready, numbers)
-        }
+        Reading::Good(frame) => lay_frame(frame, 0, 0, 0, size, numbers),
         Reading::Refused(n) => n as u32,
     }
 }

@@ -1,4 +1,5 @@
-// What a start is known by: the mark of its family, and the payload bytes behind a dollar sign.
+// What a start is known by: the mark of its family, what a count needs, and the payload bytes behind a
+// dollar sign.
 use fletcher::payload_byte;
 use leaves::text;
 ghost use mathlib.Core.Path.{_≡_};
@@ -6,13 +7,26 @@ ghost use Prim.Native.Nat.{min};
 ghost use lib.ListN.{length};
 ghost use Rattle.rules.specs.Bytes.{every};
 ghost use Rattle.rules.specs.Sentences.{isPayloadByte};
-ghost use Rattle.stream_rules.specs.Heads.{markOf, payloadRun};
+ghost use Rattle.stream_rules.specs.Heads.{markOf, needs, payloadRun};
 
 // The mark of an SPE family.
 pub fn mark_of(family: u8) -> u8
     ensures { λ r. ⌜ r ≡ markOf family ⌝ }
 {
     if family == 3 { 0x55 } else { 0xAA }
+}
+
+// How many bytes a count needs; 0 where it is not allowed.
+pub fn bytes_needed(family: u8, count: u8) -> usize
+    ensures { λ r. ⌜ r ≡ needs family count ⌝ }
+{
+    if count == 0x01 {
+        return 6;
+    }
+    if (family == 1) & (count == 0x43) {
+        return 75;
+    }
+    0
 }
 
 // Whether a block of 16 bytes is all payload bytes. No byte ends the loop, so that it can be compiled

@@ -1,39 +1,28 @@
 -- `heads::examine_packet` meets its contract: its tests go along the rules for an SPE start, byte by byte.
 -- Assumes nothing.
-use Prim.Native.Nat.{ℕ, _+_}
-use mathlib.Core.Path.{_≡_, sym, _∙_}
-use mathlib.Core.List.{List}
+use mathlib.Core.Path.{sym, _∙_}
 use native.Mathlib.Omega.{arith}
-use borrow.Author.Count.{below-none, below-more}
 use borrow.Author.Needs.{needs as kit}
-use lib.ListN.{getD}
-use Rattle.stream_rules.specs.Heads.{markOf}
-use Rattle.head_laws.proofs.PacketStarts.{Marks, no-mark, no-count, bytes-missing, all-there}
+use Rattle.head_laws.proofs.PacketStarts.{Marks, no-marks, one-more, no-mark, no-count, bytes-missing, all-there}
 use Rattle.heads.proofs.Starts.{undecided, bad-start, by-whole, few}
 use Rattle.heads.proofs.examine_packet.Statement.{statement}
 use Rattle.heads.proofs.examine_packet.Tie as tie
 
 -- the marks that the tests have found
-none : (family : ℕ) (bs : List ℕ) → Marks family 0 bs
-none family bs = below-none (λ (i : ℕ). getD bs i 0 ≡ markOf family)
-
-more : (family : ℕ) (bs : List ℕ) (k : ℕ) → Marks family k bs → getD bs k 0 ≡ markOf family → Marks family (k + 1) bs
-more family bs k = below-more (λ (i : ℕ). getD bs i 0 ≡ markOf family) k
-
 one : (c : tie.Else2) → Marks (c .before .before .before .before .before .args .family) 1 (c .before .before .before .before .before .args .s .now)
 one c =
     let a = c .before .before .before .before .before .args in
-    more (a .family) (a .s .now) 0 (none (a .family) (a .s .now)) (c .if2 .left ∙ c .before .before .before .mark-of .ensures)
+    one-more (a .family) (a .s .now) 0 (no-marks (a .family) (a .s .now)) (c .if2 .left ∙ c .before .before .before .mark-of .ensures)
 
 two : (c : tie.Else4) → Marks (c .before .before .before .before .before .before .before .before .args .family) 2 (c .before .before .before .before .before .before .before .before .args .s .now)
 two c =
     let a = c .before .before .before .before .before .before .before .before .args in
-    more (a .family) (a .s .now) 1 (one (c .before .before .before)) (c .if4 .left ∙ c .before .before .before .before .before .before .mark-of .ensures)
+    one-more (a .family) (a .s .now) 1 (one (c .before .before .before)) (c .if4 .left ∙ c .before .before .before .before .before .before .mark-of .ensures)
 
 three : (c : tie.Else6) → Marks (c .before .before .before .before .before .before .before .before .before .before .before .args .family) 3 (c .before .before .before .before .before .before .before .before .before .before .before .args .s .now)
 three c =
     let a = c .before .before .before .before .before .before .before .before .before .before .before .args in
-    more (a .family) (a .s .now) 2 (two (c .before .before .before)) (c .if6 .left ∙ c .before .before .before .before .before .before .before .before .before .mark-of .ensures)
+    one-more (a .family) (a .s .now) 2 (two (c .before .before .before)) (c .if6 .left ∙ c .before .before .before .before .before .before .before .before .before .mark-of .ensures)
 
 mark-of-requires : tie.Need-mark-of-requires
 mark-of-requires c κs = search kit
@@ -43,7 +32,7 @@ returns c =
     let start = c .before .before .before in
     let family = start .args .family in
     let bytes = start .args .s .now in
-    few family (start .pre) bytes 0 (c .if1 .taken) (omega arith) (none family bytes)
+    few family (start .pre) bytes 0 (c .if1 .taken) (omega arith) (no-marks family bytes)
 
 shared-slice-read-if2 : tie.Need-shared-slice-read-if2
 shared-slice-read-if2 c = search kit
@@ -53,7 +42,7 @@ returns-2 c =
     let start = c .before .before .before .before .before in
     let family = start .args .family in
     let bytes = start .args .s .now in
-    bad-start family bytes 1 (no-mark family (start .pre) bytes 0 (omega arith) (omega arith) (none family bytes) (λ e. c .if2 .taken (e ∙ sym (c .before .before .before .mark-of .ensures))))
+    bad-start family bytes 1 (no-mark family (start .pre) bytes 0 (omega arith) (omega arith) (no-marks family bytes) (λ e. c .if2 .taken (e ∙ sym (c .before .before .before .mark-of .ensures))))
 
 returns-3 : tie.Need-returns-3
 returns-3 c =

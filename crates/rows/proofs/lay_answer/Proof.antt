@@ -8,8 +8,8 @@ use Rattle.rows.proofs.lay_answer.Tie as tie
 enum-known-answer : tie.Need-enum-known-answer
 enum-known-answer c = search needs
 
-lay-ready-requires : tie.Need-lay-ready-requires
-lay-ready-requires c κs = search needs
+lay-frame-requires : tie.Need-lay-frame-requires
+lay-frame-requires c κs = search needs
 
 enum-known-answer-2 : tie.Need-enum-known-answer-2
 enum-known-answer-2 c = search needs
@@ -33,7 +33,7 @@ same-length : tie.Need-same-length
 same-length c = search needs
 
 returns : tie.Need-returns
-returns c = rw (c .before .before .before .before .answer .given .1) (lays (c .before .lay-ready .ensures))
+returns c = rw (c .before .before .before .before .answer .given .1) (lays (c .before .lay-frame .ensures))
 
 same-length-2 : tie.Need-same-length-2
 same-length-2 c = search needs
@@ -51,4 +51,4 @@ returns-4 : tie.Need-returns-4
 returns-4 c = rw (c .before .answer4 .given .1) (lays-none _)
 
 pub lay-answer-spec : {M : Type 1} → statement M
-lay-answer-spec = tie.close (tie.spec enum-known-answer lay-ready-requires enum-known-answer-2 lay-taken-requires enum-known-answer-3 lay-taken-requires-2 enum-known-answer-4 cast-result same-length returns same-length-2 returns-2 same-length-3 returns-3 returns-4)
+lay-answer-spec = tie.close (tie.spec enum-known-answer lay-frame-requires enum-known-answer-2 lay-taken-requires enum-known-answer-3 lay-taken-requires-2 enum-known-answer-4 cast-result same-length returns same-length-2 returns-2 same-length-3 returns-3 returns-4)

@@ -8,11 +8,11 @@ use native.Mathlib.Omega.{arith}
 use borrow.Author.Needs.{needs}
 use denote.Enum.Declared.{tagOf}
 use types.Run.{OneOf, miss}
-use lib.ListN.{length, drop, length-drop}
-use lib.Seq.{take-all}
+use lib.ListN.{length, drop}
 use Rattle.rules.specs.declared.Frame.{Frame}
 use Rattle.stream_rules.specs.Heads.{Head, bad, good, head}
 use Rattle.stream_rules.specs.Rule.{Look, byLook}
+use Rattle.head_laws.proofs.Lists.{whole-rest}
 use Rattle.seek_laws.proofs.Families.{facts}
 use Rattle.seek_laws.proofs.Starts.{NotGood}
 use Rattle.seek_laws.proofs.Walks.{Passed, nothing-passed, passes, first-good, none-left}
@@ -22,7 +22,7 @@ use Rattle.heads.specs.declared.Seen as SeenType
 use Rattle.heads.specs.declared.Seen.the-variants.{Good}
 use Rattle.heads.proofs.Starts.{seen-good, good-seen}
 use Rattle.seek.specs.Sought.{firstFrom}
-use Rattle.seek.proofs.Firsts.{other-first}
+use Rattle.seek.proofs.Firsts.{other-first, part-first}
 use Rattle.seek.specs.declared.First.{First}
 use Rattle.seek.specs.declared.First.the-variants.{At, Nothing}
 use Rattle.seek.proofs.first_good.Statement.{statement}
@@ -63,11 +63,8 @@ abbrev μ-loop : tie.MeasureT-loop
 μ-loop family s from first at₀ at = length s - at
 
 -- what was seen at `at`
-here : (c : tie.After-examine Inv-loop μ-loop) → c .examine .result ≡ seen (c .before .before .before .before .before .before .before .before .args .family) (drop (c .before .before .before .before .before .loop .at) (c .before .before .before .before .before .before .before .before .args .s .now))
-here c =
-    let s = c .before .before .before .before .before .before .before .before .args .s .now in
-    let at = c .before .before .before .before .before .loop .at in
-    c .examine .ensures ∙ ap (seen _) (take-all (length s - at) (drop at s) (omega (arith, length-drop at s)))
+here : (c : tie.After-examine Inv-loop μ-loop) → c .examine .result ≡ seen (c .before .before .before .before .before .before .before .before .before .before .before .args .family) (drop (c .before .before .before .before .before .before .before .before .loop .at) (c .before .before .before .before .before .before .before .before .before .before .before .args .s .now))
+here c = c .examine .ensures ∙ ap (seen _) (whole-rest (c .before .before .before .before .before .before .before .before .before .before .before .args .s .now) (c .before .before .before .before .before .before .before .before .loop .at))
 
 first-of-requires : tie.Need-first-of-requires Inv-loop μ-loop
 first-of-requires c κs = search needs
@@ -91,6 +88,34 @@ loop-again c =
     goes-on (a .family) (a .s .now) (a .from) (loop .at) (loop .inv)
     (bad-not-good (other-first (a .family) (a .s .now) (loop .at) _ (omega arith) (c .before .before .before .before .first-of .ensures) (c .if1 .taken) .0))
 
+sub-soon-settled : tie.Need-sub-soon-settled Inv-loop μ-loop
+sub-soon-settled c = omega arith
+
+part-soon-settled-start : tie.Need-part-soon-settled-start Inv-loop μ-loop
+part-soon-settled-start c = omega arith
+
+part-soon-settled-end : tie.Need-part-soon-settled-end Inv-loop μ-loop
+part-soon-settled-end c = omega arith
+
+soon-settled-requires : tie.Need-soon-settled-requires Inv-loop μ-loop
+soon-settled-requires c κs = (
+  c .before .before .before .before .before .first-of .ensures,
+  part-first (c .before .before .before .before .before .before .before .args .s .now) (c .before .before .before .before .loop .at) ∙ c .before .if1 .left,
+)
+
+add-at-2 : tie.Need-add-at-2 Inv-loop μ-loop
+add-at-2 c = omega arith
+
+loop-less-2 : tie.Need-loop-less-2 Inv-loop μ-loop
+loop-less-2 c = omega arith
+
+loop-again-2 : tie.Need-loop-again-2 Inv-loop μ-loop
+loop-again-2 c =
+    let loop = c .before .before .before .before .before .before .loop in
+    let a = c .before .before .before .before .before .before .before .before .before .args in
+    goes-on (a .family) (a .s .now) (a .from) (loop .at) (loop .inv)
+    (bad-not-good (ap (head (a .family)) (sym (whole-rest (a .s .now) (loop .at))) ∙ c .before .soon-settled .ensures (c .if2 .taken) .0))
+
 sub-examine : tie.Need-sub-examine Inv-loop μ-loop
 sub-examine c = omega arith
 
@@ -108,21 +133,21 @@ enum-known-n c = search needs
 
 returns : tie.Need-returns Inv-loop μ-loop
 returns c =
-    let loop = c .before .before .before .before .before .before .before .before .loop in
-    let a = c .before .before .before .before .before .before .before .before .before .before .before .args in
+    let loop = c .before .before .before .before .before .before .before .before .before .before .before .loop in
+    let a = c .before .before .before .before .before .before .before .before .before .before .before .before .before .before .args in
     stops (a .family) (a .s .now) (a .from) (loop .at) (loop .inv) _ _
     (seen-good (a .family) (drop (loop .at) (a .s .now)) _ _ (sym (here (c .before .before .before)) ∙ c .before .n .given .1))
 
-add-at-2 : tie.Need-add-at-2 Inv-loop μ-loop
-add-at-2 c = omega arith
+add-at-3 : tie.Need-add-at-3 Inv-loop μ-loop
+add-at-3 c = omega arith
 
-loop-less-2 : tie.Need-loop-less-2 Inv-loop μ-loop
-loop-less-2 c = omega arith
+loop-less-3 : tie.Need-loop-less-3 Inv-loop μ-loop
+loop-less-3 c = omega arith
 
-loop-again-2 : tie.Need-loop-again-2 Inv-loop μ-loop
-loop-again-2 c =
-    let loop = c .before .before .before .before .before .before .loop in
-    let a = c .before .before .before .before .before .before .before .before .before .args in
+loop-again-3 : tie.Need-loop-again-3 Inv-loop μ-loop
+loop-again-3 c =
+    let loop = c .before .before .before .before .before .before .before .before .before .loop in
+    let a = c .before .before .before .before .before .before .before .before .before .before .before .before .args in
     goes-on (a .family) (a .s .now) (a .from) (loop .at) (loop .inv)
     (λ n f e. other _ (c .match .keys2) n f (here (c .before) ∙ good-seen (a .family) (drop (loop .at) (a .s .now)) n f e))
 
@@ -144,13 +169,20 @@ first-good-spec =
     add-at
     loop-less
     loop-again
+    sub-soon-settled
+    part-soon-settled-start
+    part-soon-settled-end
+    soon-settled-requires
+    add-at-2
+    loop-less-2
+    loop-again-2
     sub-examine
     part-examine-start
     part-examine-end
     examine-requires
     enum-known-n
     returns
-    add-at-2
-    loop-less-2
-    loop-again-2
+    add-at-3
+    loop-less-3
+    loop-again-3
     returns-2)

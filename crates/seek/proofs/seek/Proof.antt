@@ -2,25 +2,25 @@
 -- reach that settled those. The measure is what is left of the bytes.
 -- Assumes nothing.
 use Prim.Native.Nat.{ℕ, max, _+_, _-_, _≤_}
-use mathlib.Core.Path.{_≡_, refl, sym, ap, subst⁻¹, _∙_}
+use mathlib.Core.Path.{_≡_, refl, sym, ap, subst, subst⁻¹, _∙_}
 use mathlib.Core.List.{List}
 use native.Mathlib.Numerals.{add-one}
 use native.Mathlib.Omega.{arith}
 use borrow.Author.Count.{below-none, below-more}
 use borrow.Author.Needs.{needs}
 use lib.ListN.{length, drop, length-drop}
-use lib.Seq.{take-all}
 use Rattle.rules.specs.declared.Frame.{Frame}
 use Rattle.stream_rules.specs.Heads.{wait, bad, good, head}
 use Rattle.stream_rules.specs.Rule.{Look, byLook}
 use Rattle.stream_rules.specs.Settled.{settled, reach}
 use Rattle.head_laws.proofs.Heads.{settling}
+use Rattle.head_laws.proofs.Lists.{whole-rest}
 use Rattle.seek_laws.proofs.Families.{facts}
 use Rattle.seek_laws.proofs.Starts.{BadBefore, look-at-good, look-at-wait, look-at-end}
 use Rattle.heads.specs.Seen.{seen}
 use Rattle.heads.proofs.Starts.{seen-good, seen-bad, seen-undecided}
-use Rattle.seek.specs.Sought.{soughtIn}
-use Rattle.seek.proofs.Firsts.{other-first}
+use Rattle.seek.specs.Sought.{soughtIn, SettledBy}
+use Rattle.seek.proofs.Firsts.{other-first, part-first}
 use Rattle.seek.specs.declared.Sought.{Sought}
 use Rattle.seek.specs.declared.Sought.the-variants.{Ready, Waiting}
 use Rattle.seek.proofs.seek.Statement.{statement}
@@ -49,14 +49,14 @@ module _ (family : ℕ) (s : List ℕ) (at : ℕ) (before : BadBefore (head fami
       ap Waiting e ∙ ap (answer family s) (sym (look-at-end (head family) s (subst⁻¹ (λ (n : ℕ). BadBefore (head family) s n) (sym e) before)))
 
   -- a bad start at `at` is settled by bytes that are there
-  settles : (d : ℕ) → (head family (drop at s) ≡ bad) × (settled family (drop at s) ≡ d) → d ≤ length s - at
+  settles : (d : ℕ) → SettledBy family (drop at s) d → d ≤ length s - at
   settles d h =
       let there = settling family (drop at s) (λ e. let z : _≡_ {A = ℕ} 0 1 = cc (h .0) in omega arith) .there in
       omega (arith, there, h .1, length-drop at s)
 
 -- behind a bad start that d bytes settled, the walk knows one start more
 next : (family : ℕ) (s : List ℕ) (at far on d : ℕ) → at + 1 ≤ length s → BadBefore (head family) s at → far ≡ reach family at s
-    → (head family (drop at s) ≡ bad) × (settled family (drop at s) ≡ d) → on ≡ max far (at + d)
+    → SettledBy family (drop at s) d → on ≡ max far (at + d)
     → (at + 1 ≤ length s) × (BadBefore (head family) s (at + 1) × (on ≡ reach family (at + 1) s))
 unfolding reach
 next family s at far on d there before e is-bad to = (
@@ -73,12 +73,15 @@ Inv-loop family s first at₀ far₀ at far = (at ≤ length s) × (BadBefore (h
 abbrev μ-loop : tie.MeasureT-loop
 μ-loop family s first at₀ far₀ at far = length s - at
 
--- what was seen at `at`
-here : (c : tie.After-examine Inv-loop μ-loop) → c .examine .result ≡ seen (c .before .before .before .before .before .before .before .before .args .family) (drop (c .before .before .before .before .before .loop .at) (c .before .before .before .before .before .before .before .before .args .s .now))
-here c =
-    let s = c .before .before .before .before .before .before .before .before .args .s .now in
-    let at = c .before .before .before .before .before .loop .at in
-    c .examine .ensures ∙ ap (seen _) (take-all (length s - at) (drop at s) (omega (arith, length-drop at s)))
+-- what was soon settled at `at`
+soon : (c : tie.After-soon-settled Inv-loop μ-loop) → (c .soon-settled .result ≡ 0 → ⊥) → SettledBy (c .before .before .before .before .before .before .before .before .args .family) (drop (c .before .before .before .before .before .loop .at) (c .before .before .before .before .before .before .before .before .args .s .now)) (c .soon-settled .result)
+soon c some =
+    let a = c .before .before .before .before .before .before .before .before .args in
+    subst (λ (l : List ℕ). SettledBy (a .family) l (c .soon-settled .result)) (whole-rest (a .s .now) (c .before .before .before .before .before .loop .at)) (c .soon-settled .ensures some)
+
+-- what was seen there
+here : (c : tie.After-examine Inv-loop μ-loop) → c .examine .result ≡ seen (c .before .before .before .before .before .before .before .before .before .before .before .args .family) (drop (c .before .before .before .before .before .before .before .before .loop .at) (c .before .before .before .before .before .before .before .before .before .before .before .args .s .now))
+here c = c .examine .ensures ∙ ap (seen _) (whole-rest (c .before .before .before .before .before .before .before .before .before .before .before .args .s .now) (c .before .before .before .before .before .before .before .before .loop .at))
 
 first-of-requires : tie.Need-first-of-requires Inv-loop μ-loop
 first-of-requires c κs = search needs
@@ -112,6 +115,42 @@ loop-again c =
     let is-bad = other-first (a .family) s (loop .at) _ (omega arith) (c .before .before .before .before .before .first-of .ensures) (c .before .if1 .taken) in
     next (a .family) s (loop .at) _ _ 1 (omega arith) (loop .inv .1 .0) (loop .inv .1 .1) is-bad (c .further .ensures)
 
+sub-soon-settled : tie.Need-sub-soon-settled Inv-loop μ-loop
+sub-soon-settled c = omega arith
+
+part-soon-settled-start : tie.Need-part-soon-settled-start Inv-loop μ-loop
+part-soon-settled-start c = omega arith
+
+part-soon-settled-end : tie.Need-part-soon-settled-end Inv-loop μ-loop
+part-soon-settled-end c = omega arith
+
+soon-settled-requires : tie.Need-soon-settled-requires Inv-loop μ-loop
+soon-settled-requires c κs = (
+  c .before .before .before .before .before .first-of .ensures,
+  part-first (c .before .before .before .before .before .before .before .args .s .now) (c .before .before .before .before .loop .at) ∙ c .before .if1 .left,
+)
+
+add-further-2 : tie.Need-add-further-2 Inv-loop μ-loop
+add-further-2 c =
+    let loop = c .before .before .before .before .before .before .loop in
+    let a = c .before .before .before .before .before .before .before .before .before .args in
+    omega (arith, settles (a .family) (a .s .now) (loop .at) (loop .inv .1 .0) _ (soon (c .before) (c .if2 .taken)))
+
+further-requires-2 : tie.Need-further-requires-2 Inv-loop μ-loop
+further-requires-2 c κs = search needs
+
+add-at-2 : tie.Need-add-at-2 Inv-loop μ-loop
+add-at-2 c = omega arith
+
+loop-less-2 : tie.Need-loop-less-2 Inv-loop μ-loop
+loop-less-2 c = omega arith
+
+loop-again-2 : tie.Need-loop-again-2 Inv-loop μ-loop
+loop-again-2 c =
+    let loop = c .before .before .before .before .before .before .before .loop in
+    let a = c .before .before .before .before .before .before .before .before .before .before .args in
+    next (a .family) (a .s .now) (loop .at) _ _ _ (omega arith) (loop .inv .1 .0) (loop .inv .1 .1) (soon (c .before .before) (c .before .if2 .taken)) (c .further2 .ensures)
+
 sub-examine : tie.Need-sub-examine Inv-loop μ-loop
 sub-examine c = omega arith
 
@@ -129,8 +168,8 @@ enum-known-n c = search needs
 
 returns : tie.Need-returns Inv-loop μ-loop
 returns c =
-    let loop = c .before .before .before .before .before .before .before .before .loop in
-    let a = c .before .before .before .before .before .before .before .before .before .before .before .args in
+    let loop = c .before .before .before .before .before .before .before .before .before .before .before .loop in
+    let a = c .before .before .before .before .before .before .before .before .before .before .before .before .before .before .args in
     stops-at-good (a .family) (a .s .now) (loop .at) (loop .inv .1 .0) _ _ _ (loop .inv .1 .1)
     (seen-good (a .family) (drop (loop .at) (a .s .now)) _ _ (sym (here (c .before .before .before)) ∙ c .before .n .given .1))
 
@@ -139,37 +178,37 @@ enum-told c = search needs
 
 returns-2 : tie.Need-returns-2 Inv-loop μ-loop
 returns-2 c =
-    let loop = c .before .before .before .before .before .before .before .loop in
-    let a = c .before .before .before .before .before .before .before .before .before .before .args in
+    let loop = c .before .before .before .before .before .before .before .before .before .before .loop in
+    let a = c .before .before .before .before .before .before .before .before .before .before .before .before .before .args in
     stops-at-wait (a .family) (a .s .now) (loop .at) (loop .inv .1 .0) (loop .inv .0)
     (seen-undecided (a .family) (drop (loop .at) (a .s .now)) (sym (here (c .before .before)) ∙ c .enum-told .given .1))
 
 enum-known-d : tie.Need-enum-known-d Inv-loop μ-loop
 enum-known-d c = search needs
 
-add-further-2 : tie.Need-add-further-2 Inv-loop μ-loop
-add-further-2 c =
-    let loop = c .before .before .before .before .before .before .before .before .loop in
-    let a = c .before .before .before .before .before .before .before .before .before .before .before .args in
+add-further-3 : tie.Need-add-further-3 Inv-loop μ-loop
+add-further-3 c =
+    let loop = c .before .before .before .before .before .before .before .before .before .before .before .loop in
+    let a = c .before .before .before .before .before .before .before .before .before .before .before .before .before .before .args in
     let is-bad = seen-bad (a .family) (drop (loop .at) (a .s .now)) _ (sym (here (c .before .before .before)) ∙ c .before .d .given .1) in
     omega (arith, settles (a .family) (a .s .now) (loop .at) (loop .inv .1 .0) (c .before .d .given .0 .0) is-bad)
 
-further-requires-2 : tie.Need-further-requires-2 Inv-loop μ-loop
-further-requires-2 c κs = search needs
+further-requires-3 : tie.Need-further-requires-3 Inv-loop μ-loop
+further-requires-3 c κs = search needs
 
-add-at-2 : tie.Need-add-at-2 Inv-loop μ-loop
-add-at-2 c = omega arith
+add-at-3 : tie.Need-add-at-3 Inv-loop μ-loop
+add-at-3 c = omega arith
 
-loop-less-2 : tie.Need-loop-less-2 Inv-loop μ-loop
-loop-less-2 c = omega arith
+loop-less-3 : tie.Need-loop-less-3 Inv-loop μ-loop
+loop-less-3 c = omega arith
 
-loop-again-2 : tie.Need-loop-again-2 Inv-loop μ-loop
-loop-again-2 c =
-    let loop = c .before .before .before .before .before .before .before .before .before .loop in
-    let a = c .before .before .before .before .before .before .before .before .before .before .before .before .args in
+loop-again-3 : tie.Need-loop-again-3 Inv-loop μ-loop
+loop-again-3 c =
+    let loop = c .before .before .before .before .before .before .before .before .before .before .before .before .loop in
+    let a = c .before .before .before .before .before .before .before .before .before .before .before .before .before .before .before .args in
     let s = a .s .now in
     let is-bad = seen-bad (a .family) (drop (loop .at) s) _ (sym (here (c .before .before .before .before)) ∙ c .before .before .d .given .1) in
-    next (a .family) s (loop .at) _ _ _ (omega arith) (loop .inv .1 .0) (loop .inv .1 .1) is-bad (c .further2 .ensures)
+    next (a .family) s (loop .at) _ _ _ (omega arith) (loop .inv .1 .0) (loop .inv .1 .1) is-bad (c .further3 .ensures)
 
 returns-3 : tie.Need-returns-3 Inv-loop μ-loop
 returns-3 c =
@@ -191,6 +230,15 @@ seek-spec =
     add-at
     loop-less
     loop-again
+    sub-soon-settled
+    part-soon-settled-start
+    part-soon-settled-end
+    soon-settled-requires
+    add-further-2
+    further-requires-2
+    add-at-2
+    loop-less-2
+    loop-again-2
     sub-examine
     part-examine-start
     part-examine-end
@@ -200,9 +248,9 @@ seek-spec =
     enum-told
     returns-2
     enum-known-d
-    add-further-2
-    further-requires-2
-    add-at-2
-    loop-less-2
-    loop-again-2
+    add-further-3
+    further-requires-3
+    add-at-3
+    loop-less-3
+    loop-again-3
     returns-3)

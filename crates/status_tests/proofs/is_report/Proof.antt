@@ -1,59 +1,24 @@
--- `status_tests::is_report` meets its contract: 75 bytes are four that stand in front, the data and four that stand behind, and the
--- data is the same as itself. The sum of 67 bytes does not wrap.
+-- `status_tests::is_report` meets its contract: its tests are those of the bytes in front and behind. The sum of 67 bytes does
+-- not wrap.
 -- Assumes nothing.
-use Prim.Native.Nat.{ℕ, _+_, _/_, _%_, _^_}
+use Prim.Native.Nat.{ℕ, _/_, _%_, _^_}
 use mathlib.Core.Path.{_≡_, sym, ap, _∙_}
-use mathlib.Core.Bool.{Bool, true, false, _&&_, and-assoc, and-true, and-false, and-comm}
-use mathlib.Core.List.{List, [], _∷_, _++_}
+use mathlib.Core.Bool.{_&&_}
+use mathlib.Core.List.{List}
 use native.Mathlib.Nat.{mod-eq-of-lt}
 use native.Mathlib.Omega.{arith}
 use borrow.Author.Needs.{needs}
 use borrow.Author.Tests.{not-true, not-false}
 use lib.Dec.{eqb}
-use lib.ListN.{length, drop, getD, take-append-drop}
-use lib.Seq.{drop-drop}
-use Rattle.rules.specs.Bytes.{same, total}
-use Rattle.rules.specs.Status.{statusFrame, dataOf}
-use Rattle.laws.proofs.Lists.{next, last, same-front, AreBytes, bytes-take, bytes-drop, total-below}
-use Rattle.status_tests.proofs.Frames.{data-length, not-framed}
+use lib.ListN.{length, drop}
+use Rattle.rules.specs.Bytes.{total}
+use Rattle.rules.specs.Status.{dataOf}
+use Rattle.laws.proofs.Lists.{AreBytes, bytes-take, bytes-drop, total-below}
+use Rattle.status_tests.proofs.Frames.{data-length, not-framed, bad-front, bad-ends, good-ends}
 use Rattle.status_tests.proofs.is_report.Statement.{statement}
 use Rattle.status_tests.proofs.is_report.Tie as tie
 
-abbrev front : List ℕ → Bool
-front s = eqb (getD s 0 0) 0xAA && eqb (getD s 1 0) 0xAA && eqb (getD s 2 0) 0xAA && eqb (getD s 3 0) 0x43
-
-abbrev sums : List ℕ → Bool
-sums s = eqb (getD s 71 0) (total (dataOf s) % 256) && eqb (getD s 72 0) (total (dataOf s) / 256)
-
-abbrev ends : List ℕ → Bool
-ends s = eqb (getD s 73 0) 0x0D && eqb (getD s 74 0) 0x0A
-
-parted : (s : List ℕ) → length s ≡ 75
-    → s ≡ getD s 0 0 ∷ getD s 1 0 ∷ getD s 2 0 ∷ getD s 3 0 ∷ dataOf s ++ getD s 71 0 ∷ getD s 72 0 ∷ getD s 73 0 ∷ getD s 74 0 ∷ []
-parted s h =
-    next 4 0 s (omega arith)
-    ∙ ap (λ (l : List ℕ). getD s 0 0 ∷ getD s 1 0 ∷ getD s 2 0 ∷ getD s 3 0 ∷ l)
-    (sym (take-append-drop 67 (drop 4 s)) ∙ ap (λ (l : List ℕ). dataOf s ++ l) (drop-drop 67 4 s ∙ last 4 71 s h))
-
-swapped : (a b x y : Bool) → (a && (b && (x && y))) ≡ (x && (y && (a && b)))
-swapped a b x y = sym (and-assoc a b (x && y)) ∙ and-comm (a && b) (x && y) ∙ and-assoc x y (a && b)
-
-framed : (s : List ℕ) → length s ≡ 75 → same s (statusFrame (dataOf s)) ≡ (front s && ends s && sums s)
-unfolding same statusFrame
-framed s h =
-    ap (λ (l : List ℕ). same l (statusFrame (dataOf s))) (parted s h)
-    ∙ rw (same-front (dataOf s)) (simp (and-assoc, and-true) (rw (swapped (eqb (getD s 71 0) (total (dataOf s) % 256)))))
-
 module _ (s : List ℕ) (h : length s ≡ 75) where
-  bad-front : front s ≡ false → same s (statusFrame (dataOf s)) ≡ false
-  bad-front e = framed s h ∙ ap (λ (b : Bool). b && ends s && sums s) e
-
-  bad-ends : ends s ≡ false → same s (statusFrame (dataOf s)) ≡ false
-  bad-ends e = framed s h ∙ ap (λ (b : Bool). front s && b && sums s) e ∙ ap (λ (b : Bool). b && sums s) (and-false (front s))
-
-  good-ends : front s ≡ true → ends s ≡ true → same s (statusFrame (dataOf s)) ≡ sums s
-  good-ends e f = framed s h ∙ (λ i. e i && f i && sums s)
-
   -- the sum that was taken is the total itself
   exact : AreBytes s → (n : ℕ) → n ≡ total (dataOf s) % 2 ^ 32 → n ≡ total (dataOf s)
   exact b n e = e ∙ mod-eq-of-lt (omega (arith, total-below (dataOf s) (bytes-take 67 (drop 4 s) (bytes-drop 4 s b)), data-length s h))

@@ -1,21 +1,15 @@
--- `rows::lay_ready` meets its contract: its test is refusal 4, and the values are laid behind the first six numbers.
+-- `rows::lay_frame` meets its contract: its test is refusal 4, and the values are laid behind the first six numbers.
 -- Assumes nothing.
 use mathlib.Core.Path.{_∙_}
-use mathlib.Core.List.{List}
 use native.Mathlib.Omega.{arith}
-use lib.IntN.{ℤ}
 use denote.Ref.{now}
-use Rattle.stream_rules.specs.declared.Ready.{Ready}
 use Rattle.rules.specs.Answers.{values}
 use Rattle.rows.specs.Rows.{frameKind, frameCode, head}
 use Rattle.rows.proofs.Laid.{laid-behind}
 use Rattle.rows.proofs.Laying.{too-long, at-the-front}
 use borrow.Author.Needs.{needs}
-use Rattle.rows.proofs.lay_ready.Statement.{statement}
-use Rattle.rows.proofs.lay_ready.Tie as tie
-
-abbrev first : Ready → List ℤ
-first r = head (frameKind (r .frame)) (frameCode (r .frame)) (r .taken) (r .start) (r .skipped) (r .length)
+use Rattle.rows.proofs.lay_frame.Statement.{statement}
+use Rattle.rows.proofs.lay_frame.Tie as tie
 
 row-length-requires : tie.Need-row-length-requires
 row-length-requires c κs = search needs
@@ -43,8 +37,9 @@ returns-2 c =
     let h = c .before .before .before .before in
     let e = h .before .before .before .before in
     let a = e .before .before .args in
-    let laid = laid-behind (first (a .ready)) (values (a .ready .frame)) (now (a .numbers)) in
+    let first = head (frameKind (a .frame)) (frameCode (a .frame)) (a .taken) (a .start) (a .skipped) (a .size) in
+    let laid = laid-behind first (values (a .frame)) (now (a .numbers)) in
     at-the-front (omega arith) (c .before .put-values .ensures ∙ rw (h .put-head .ensures, h .before .code .ensures, h .before .before .kind .ensures) laid)
 
-pub lay-ready-spec : {M : Type 1} → statement M
-lay-ready-spec = tie.close (tie.spec row-length-requires returns kind-requires code-requires put-head-requires put-values-requires same-length returns-2)
+pub lay-frame-spec : {M : Type 1} → statement M
+lay-frame-spec = tie.close (tie.spec row-length-requires returns kind-requires code-requires put-head-requires put-values-requires same-length returns-2)

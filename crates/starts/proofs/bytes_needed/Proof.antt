@@ -1,10 +1,10 @@
--- `heads::bytes_needed` meets its contract: its two tests are those of the rule.
+-- `starts::bytes_needed` meets its contract: its two tests are those of the rule.
 -- Assumes nothing.
 use mathlib.Core.Bool.{Bool, cond}
 use mathlib.Core.Path.{ap, sym}
 use borrow.Author.Tests.{eq-eqb, ne-eqb}
-use Rattle.heads.proofs.bytes_needed.Statement.{statement}
-use Rattle.heads.proofs.bytes_needed.Tie as tie
+use Rattle.starts.proofs.bytes_needed.Statement.{statement}
+use Rattle.starts.proofs.bytes_needed.Tie as tie
 
 returns : tie.Need-returns
 returns c = rw (eq-eqb (c .before .args .count) 1 (c .if1 .taken))
