@@ -2,6 +2,7 @@
 // writers and the order of stamps, as functions that a C program calls. Each gives one number back, of most of
 // them that of a refusal or 0, and leaves the rest in memory that is lent to it. Those on a lent
 // reader are thin over calls by value.
+use stream_rules::Fed;
 use stream_rules::Listed;
 use stream_rules::Order;
 use stream_rules::Outcome;
@@ -9,11 +10,11 @@ use stream_rules::Reader;
 ghost use mathlib.Core.Path.{_≡_};
 ghost use mathlib.Core.Bool.{true, cond};
 ghost use lib.Dec.{leb};
-ghost use Rattle.stream_rules.specs.Streams.{saidToTurn};
+ghost use Rattle.stream_rules.specs.Streams.{saidToFeed, saidToTurn};
 ghost use Rattle.stream_rules.specs.Lister.{order};
 ghost use Rattle.rules.specs.Answers.{noRoom};
 ghost use Rattle.rules.specs.Sentences.{enableBytes};
-ghost use Rattle.rows.specs.Rows.{refusalOf};
+ghost use Rattle.rows.specs.Rows.{rowFed, refusalOf, Lays};
 ghost use Rattle.given.specs.Given.{WritesNumbers, WritesGiven};
 ghost use Rattle.amp.specs.Boundary.{Freshens, FeedsRow, Closes, ReadsRow, ListsStarts, Nexts, orderNumber};
 
@@ -63,22 +64,12 @@ fn freshened(reader: Reader, family: u32) -> After
     }
 }
 
-// A call that offers bytes. Where it is refused, or its row has no room, the reader is the one that was
-// passed.
-fn fed(reader: Reader, offered: &[u8], numbers: &mut [i64]) -> After
-    ensures { λ r. ⌜ FeedsRow reader (now (offered .entry)) (now (numbers .entry)) (r .number) (r .reader) (now (numbers .exit)) ⌝ }
+// The row of what a call on a stream answered.
+fn laid(called: Fed, numbers: &mut [i64]) -> u32
+    ensures { λ r. ⌜ Lays (saidToFeed (called .answer)) (rowFed (called .answer)) (now (numbers .entry)) r (now (numbers .exit)) ⌝ }
 {
-    let called = stream::feed(reader, offered);
     let answer = called.answer;
-    let number = rows::lay_answer(answer, numbers);
-    if number != 0 {
-        return After { reader, number };
-    }
-    let next = called.reader;
-    After {
-        reader: next,
-        number,
-    }
+    rows::lay_answer(answer, numbers)
 }
 
 // A closed reader.
@@ -105,15 +96,19 @@ pub extern "C" fn amp_fresh(reader: &mut Reader, family: u32) -> u32
     after.number
 }
 
-// Offers bytes to the lent reader, and lays the row of what it answers.
+// Offers bytes to the lent reader, and lays the row of what it answers. Where the call is refused, or its
+// row has no room, the reader is not written: no copy of it is made that is not needed.
 #[no_mangle]
 pub extern "C" fn amp_feed(reader: &mut Reader, offered: &[u8], numbers: &mut [i64]) -> u32
     ensures { λ r. ⌜ FeedsRow (now (reader .entry)) (now (offered .entry)) (now (numbers .entry)) r (now (reader .exit)) (now (numbers .exit)) ⌝ }
 {
     let was = *reader;
-    let after = fed(was, offered, numbers);
-    *reader = after.reader;
-    after.number
+    let called = stream::feed(was, offered);
+    let number = laid(called, numbers);
+    if number == 0 {
+        *reader = called.reader;
+    }
+    number
 }
 
 // Closes the lent reader.

@@ -12,7 +12,7 @@ use lib.ListN.{length, drop, length-drop}
 use Rattle.rules.specs.declared.Frame.{Frame}
 use Rattle.stream_rules.specs.Heads.{wait, bad, good, head}
 use Rattle.stream_rules.specs.Rule.{Look, byLook}
-use Rattle.stream_rules.specs.Settled.{settled, reach}
+use Rattle.stream_rules.specs.Settled.{reach}
 use Rattle.head_laws.proofs.Heads.{settling}
 use Rattle.head_laws.proofs.Lists.{whole-rest}
 use Rattle.seek_laws.proofs.Families.{facts}
