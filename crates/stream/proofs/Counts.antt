@@ -6,8 +6,9 @@ use native.Mathlib.Nat.{zero-add, add-mod-mod}
 use Rattle.stream_rules.specs.Rule.{Call, gives, wants}
 use Rattle.stream_rules.specs.Streams.{wrap, openCall}
 use Rattle.stream_rules.specs.declared.Reader.{Reader}
+use Rattle.stream_rules.specs.declared.Ready.{Ready as HandedOut}
 use Rattle.stream_rules.specs.declared.Answer.the-variants.{Ready as FrameReady, More}
-use Rattle.stream.specs.Turns.{turned, moved, fedStep, fedBy}
+use Rattle.stream.specs.Turns.{turned, moved, handedOut, fedStep, fedBy}
 use Rattle.stream.specs.declared.pieces.Step.the-variants.{Ready, Waiting}
 use Rattle.stream.specs.declared.pieces.Got.{Got}
 use Rattle.stream.specs.declared.pieces.Turn.{Turn}
@@ -16,19 +17,12 @@ use Rattle.stream.specs.declared.pieces.Turn.{Turn}
 pub counted-on : (x k low sum : ℕ) → low ≡ k % 2 ^ 32 → sum ≡ (x + low) % 2 ^ 32 → sum ≡ wrap (x + k)
 counted-on x k low sum e d = d ∙ ap (λ (n : ℕ). (x + n) % 2 ^ 32) e ∙ add-mod-mod x k (2 ^ 32)
 
--- The answer of a turn with a frame, and of one that wants more, from their three sums or two.
-pub of-ready : (r : Reader) (turn : Turn) (g : Got) → turn .step ≡ Ready g → (at start skipped : ℕ)
-    → at ≡ wrap (r .at + (g .skipped + g .length)) → start ≡ wrap (r .at + g .skipped) → skipped ≡ wrap (r .skipped + g .skipped)
-    → record {
-      reader = moved r (turn .count) (turn .held) at 0;
-      answer = FrameReady (record { taken = g .taken; start = start; skipped = skipped; length = g .length; frame = g .frame });
-    } ≡ fedBy r turn
-of-ready r turn g is at start skipped e d b =
-    (λ i. record {
-      reader = moved r (turn .count) (turn .held) (e i) 0;
-      answer = FrameReady (record { taken = g .taken; start = d i; skipped = b i; length = g .length; frame = g .frame });
-    })
-    ∙ ap (fedStep r (turn .count) (turn .held)) (sym is)
+-- The answer of a turn with a frame, from its sum and what is said of the frame, and of one that wants more, from its two sums.
+pub of-ready : (r : Reader) (turn : Turn) (g : Got) → turn .step ≡ Ready g → (at : ℕ) (ready : HandedOut)
+    → at ≡ wrap (r .at + (g .skipped + g .length)) → ready ≡ handedOut (r .at) (r .skipped) g
+    → record { reader = moved r (turn .count) (turn .held) at 0; answer = FrameReady ready } ≡ fedBy r turn
+of-ready r turn g is at ready e d =
+    (λ i. record { reader = moved r (turn .count) (turn .held) (e i) 0; answer = FrameReady (d i) }) ∙ ap (fedStep r (turn .count) (turn .held)) (sym is)
 
 pub of-waiting : (r : Reader) (turn : Turn) (t s : ℕ) → turn .step ≡ Waiting t s → (at skipped : ℕ) → at ≡ wrap (r .at + s) → skipped ≡ wrap (r .skipped + s)
     → record { reader = moved r (turn .count) (turn .held) at skipped; answer = More t } ≡ fedBy r turn

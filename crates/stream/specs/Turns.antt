@@ -9,7 +9,9 @@ use Rattle.stream_rules.specs.Rule.{Call, gives, wants, call}
 use Rattle.stream_rules.specs.Streams.{wrap, goOn}
 use Rattle.stream_rules.specs.declared.Reader.{Reader}
 use Rattle.stream_rules.specs.declared.Answer.the-variants.{Ready as FrameReady, More, Done}
+use Rattle.stream_rules.specs.declared.Ready.{Ready as HandedOut}
 use Rattle.stream_rules.specs.declared.Fed.{Fed}
+use Rattle.stream.specs.declared.pieces.Got.{Got}
 use Rattle.stream.specs.declared.pieces.Step.{Step}
 use Rattle.stream.specs.declared.pieces.Step.the-variants.{Ready, Waiting}
 use Rattle.stream.specs.declared.pieces.Cut.{Cut}
@@ -55,20 +57,23 @@ abbrev pub StepFits : Step → Type 0
 StepFits (Ready g) = g .skipped + g .length < 2 ^ 64
 StepFits (Waiting t s) = Unit
 
--- the reader with these places and counts, and the answer of a turn
+-- the reader with these places and counts, what is said of a frame, and the answer of a turn
 abbrev pub moved : Reader → ℕ → List ℕ → ℕ → ℕ → Reader
 moved r count held at skipped = record { family = r .family; closed = r .closed; count = count; held = held; at = at; skipped = skipped }
+
+abbrev pub handedOut : ℕ → ℕ → Got → HandedOut
+handedOut at skipped g = record {
+  taken = g .taken;
+  start = wrap (at + g .skipped);
+  skipped = wrap (skipped + g .skipped);
+  length = g .length;
+  frame = g .frame;
+}
 
 abbrev pub fedStep : Reader → ℕ → List ℕ → Step → Fed
 fedStep r count held (Ready g) = record {
   reader = moved r count held (wrap (r .at + (g .skipped + g .length))) 0;
-  answer = FrameReady (record {
-    taken = g .taken;
-    start = wrap (r .at + g .skipped);
-    skipped = wrap (r .skipped + g .skipped);
-    length = g .length;
-    frame = g .frame;
-  });
+  answer = FrameReady (handedOut (r .at) (r .skipped) g);
 }
 fedStep r count held (Waiting t s) = record { reader = moved r count held (wrap (r .at + s)) (wrap (r .skipped + s)); answer = More t }
 

@@ -24,13 +24,27 @@ ghost use Prim.Native.Nat.{_%_, _^_, _≤_, _<_};
 ghost use Rattle.stream_rules.specs.Heads.{longest, head, atClose};
 ghost use Rattle.stream_rules.specs.Rule.{look};
 ghost use Rattle.stream_rules.specs.Streams.{heldOf, closedCall, Feeds, Shuts, Makes};
-ghost use Rattle.stream.specs.Turns.{StepFits, fedBy, doneWith};
+ghost use Rattle.stream.specs.Turns.{StepFits, handedOut, fedBy, doneWith};
 
 // The number modulo 2^32.
 fn low(n: usize) -> u32
     ensures { λ r. ⌜ r ≡ n % 2 ^ 32 ⌝ }
 {
     (n % 0x1_0000_0000) as u32
+}
+
+// What is said of a frame that is handed out, by a reader at a place that has skipped some bytes.
+fn handed_out(at: u32, skipped: u32, got: Got) -> Ready
+    ensures { λ r. ⌜ r ≡ handedOut at skipped got ⌝ }
+{
+    let frame = got.frame;
+    Ready {
+        taken: got.taken,
+        start: wrapping_add_u32(at, low(got.skipped)),
+        skipped: wrapping_add_u32(skipped, low(got.skipped)),
+        length: got.length,
+        frame,
+    }
 }
 
 // The answer of a turn, and the reader after it. Both counts advance by wrapping adds.
@@ -43,21 +57,13 @@ fn answered(r: Reader, turn: Turn) -> Fed
     let count = turn.count as u8;
     match step {
         Step::Ready(got) => {
-            let frame = got.frame;
-            let ready = Ready {
-                taken: got.taken,
-                start: wrapping_add_u32(r.at, low(got.skipped)),
-                skipped: wrapping_add_u32(r.skipped, low(got.skipped)),
-                length: got.length,
-                frame,
-            };
-            let at = wrapping_add_u32(r.at, low(got.skipped + got.length));
+            let ready = handed_out(r.at, r.skipped, got);
             let reader = Reader {
                 family: r.family,
                 closed: r.closed,
                 count,
                 held,
-                at,
+                at: wrapping_add_u32(r.at, low(got.skipped + got.length)),
                 skipped: 0, // counted again from here
             };
             Fed {

@@ -15,11 +15,23 @@ cast-count c = search needs
 enum-known-step : tie.Need-enum-known-step
 enum-known-step c = search needs
 
+handed-out-requires : tie.Need-handed-out-requires
+handed-out-requires c κs = search needs
+
+add-low : tie.Need-add-low
+add-low c =
+    let step = c .before .before .before .step in
+    let fits = subst StepFits (step .given .1) (c .before .before .before .before .before .before .before .pre .1) in
+    omega (arith, fits)
+
 low-requires : tie.Need-low-requires
 low-requires c κs = search needs
 
 wrapping-add-u32-requires : tie.Need-wrapping-add-u32-requires
 wrapping-add-u32-requires c κs = search needs
+
+enum-known-step-2 : tie.Need-enum-known-step-2
+enum-known-step-2 c = search needs
 
 low-requires-2 : tie.Need-low-requires-2
 low-requires-2 c κs = search needs
@@ -27,42 +39,20 @@ low-requires-2 c κs = search needs
 wrapping-add-u32-requires-2 : tie.Need-wrapping-add-u32-requires-2
 wrapping-add-u32-requires-2 c κs = search needs
 
-add-low : tie.Need-add-low
-add-low c =
-    let step = c .before .before .before .before .before .before .step in
-    let fits = subst StepFits (step .given .1) (c .before .before .before .before .before .before .before .before .before .before .pre .1) in
-    omega (arith, fits)
-
 low-requires-3 : tie.Need-low-requires-3
 low-requires-3 c κs = search needs
 
 wrapping-add-u32-requires-3 : tie.Need-wrapping-add-u32-requires-3
 wrapping-add-u32-requires-3 c κs = search needs
 
-enum-known-step-2 : tie.Need-enum-known-step-2
-enum-known-step-2 c = search needs
-
-low-requires-4 : tie.Need-low-requires-4
-low-requires-4 c κs = search needs
-
-wrapping-add-u32-requires-4 : tie.Need-wrapping-add-u32-requires-4
-wrapping-add-u32-requires-4 c κs = search needs
-
-low-requires-5 : tie.Need-low-requires-5
-low-requires-5 c κs = search needs
-
-wrapping-add-u32-requires-5 : tie.Need-wrapping-add-u32-requires-5
-wrapping-add-u32-requires-5 c κs = search needs
-
 returns : tie.Need-returns
 returns c =
-    let a = c .before .before .before .before .before .before .before .before .before .before .before .before .args in
-    let step = c .before .before .before .before .before .before .before .before .step in
+    let a = c .before .before .before .before .before .before .before .before .before .args in
+    let step = c .before .before .before .before .before .step in
     let got = step .given .0 .0 in
-    of-ready (a .r) (a .turn) got (step .given .1) _ _ _
-    (counted-on (a .r .at) (got .skipped + got .length) _ _ (c .before .low3 .ensures) (c .wrapping-add-u323 .ensures))
-    (counted-on (a .r .at) (got .skipped) _ _ (c .before .before .before .before .before .before .low .ensures) (c .before .before .before .before .before .wrapping-add-u32 .ensures))
-    (counted-on (a .r .skipped) (got .skipped) _ _ (c .before .before .before .before .low2 .ensures) (c .before .before .before .wrapping-add-u322 .ensures))
+    of-ready (a .r) (a .turn) got (step .given .1) _ _
+    (counted-on (a .r .at) (got .skipped + got .length) _ _ (c .before .low .ensures) (c .wrapping-add-u32 .ensures))
+    (c .before .before .before .handed-out .ensures)
 
 returns-2 : tie.Need-returns-2
 returns-2 c =
@@ -70,8 +60,8 @@ returns-2 c =
     let step = c .before .before .before .before .before .step2 in
     let skipped = step .given .0 .1 .0 in
     of-waiting (a .r) (a .turn) (step .given .0 .0) skipped (step .given .1) _ _
-    (counted-on (a .r .at) skipped _ _ (c .before .before .before .low4 .ensures) (c .before .before .wrapping-add-u324 .ensures))
-    (counted-on (a .r .skipped) skipped _ _ (c .before .low5 .ensures) (c .wrapping-add-u325 .ensures))
+    (counted-on (a .r .at) skipped _ _ (c .before .before .before .low2 .ensures) (c .before .before .wrapping-add-u322 .ensures))
+    (counted-on (a .r .skipped) skipped _ _ (c .before .low3 .ensures) (c .wrapping-add-u323 .ensures))
 
 pub answered-spec : {M : Type 1} → statement M
 answered-spec =
@@ -79,17 +69,14 @@ answered-spec =
     (tie.spec
     cast-count
     enum-known-step
+    handed-out-requires
+    add-low
     low-requires
     wrapping-add-u32-requires
+    enum-known-step-2
     low-requires-2
     wrapping-add-u32-requires-2
-    add-low
     low-requires-3
     wrapping-add-u32-requires-3
-    enum-known-step-2
-    low-requires-4
-    wrapping-add-u32-requires-4
-    low-requires-5
-    wrapping-add-u32-requires-5
     returns
     returns-2)
