@@ -1,7 +1,7 @@
 -- A start whose byte is not the first of the family's frames is bad, and that byte settles it.
 -- Assumes nothing.
 use Prim.Native.Nat.{ℕ, _-_, _<_}
-use mathlib.Core.Path.{_≡_, sym, ap, subst⁻¹, _∙_}
+use mathlib.Core.Path.{_≡_, sym, ap, subst, subst⁻¹, _∙_}
 use mathlib.Core.Bool.{Bool, cond}
 use mathlib.Core.List.{List}
 use Prim.Native.Char.{code}
@@ -39,6 +39,10 @@ pub other-first : (family : ℕ) (s : List ℕ) (at first : ℕ) → at < length
     → SettledBy family (drop at s) 1
 other-first family s at first there is differs =
     not-first family (drop at s) (omega (arith, length-drop at s, there)) (λ e. differs (sym (at-first s at) ∙ e ∙ sym is))
+
+-- what settles that part settles the start
+pub part-settled : (family : ℕ) (s : List ℕ) (at d : ℕ) → SettledBy family (take (length s - at) (drop at s)) d → SettledBy family (drop at s) d
+part-settled family s at d = subst (λ (l : List ℕ). SettledBy family l d) (whole-rest s at)
 
 pub part-first : (s : List ℕ) (at : ℕ) → getD (take (length s - at) (drop at s)) 0 0 ≡ getD s at 0
 part-first s at = ap (λ (l : List ℕ). getD l 0 0) (whole-rest s at) ∙ at-first s at

@@ -1,5 +1,5 @@
-// Walks the starts of some bytes: to the first that is not bad, or to the first good frame. Each
-// start is examined once.
+// Walks the starts of some bytes: to the first that is not bad, or to the first good frame. A start that
+// little shows to be bad is passed over; any other is examined, once.
 use heads::Seen;
 use heads::examine;
 use leaves::further;

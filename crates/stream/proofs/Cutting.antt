@@ -12,6 +12,7 @@ use Rattle.stream_rules.specs.Heads.{longest, head}
 use Rattle.stream_rules.specs.Rule.{Look, ready, waiting, look, byLook, wants}
 use Rattle.stream_rules.specs.Settled.{settled, reach}
 use Rattle.head_laws.proofs.Heads.{GoodHead, good-head}
+use Rattle.head_laws.proofs.Lists.{whole-rest}
 use Rattle.stream_laws.proofs.Looks.{FrameFirst, OpenFirst, look-ready, look-waiting}
 use Rattle.seek_laws.proofs.Families.{facts}
 use Rattle.stream_laws.proofs.Calls.{wanted-call}
@@ -67,10 +68,9 @@ module _ (family : ℕ) (work : List ℕ) (count t s : ℕ) (there : count ≤ l
       let is : callOn family work count ≡ wants (length (drop count work)) at (found .0) = wanted-call (head family) (longest family) (facts family) (take count work) (drop count work) at (found .0) here in
       let open-start : OpenFirst (head family) work at (found .0) = look-waiting (head family) work at (found .0) (found .1) in
       let short = piece-keeps (facts family) (take count work) (drop count work) (length (drop count work)) at (found .0) is .1 in
-      let all : take (length work - at) (drop at work) ≡ drop at work = take-all (length work - at) (drop at work) (omega (arith, length-drop at work)) in
       record {
         says = ap (λ (n : ℕ). StepWaiting (t + n) (s + at)) (sym (length-drop count work)) ∙ ap (stepFrom t s) (sym is);
-        keeps = all ∙ sym (open-start .rest) ∙ ap keptOf (sym is);
+        keeps = whole-rest work at ∙ sym (open-start .rest) ∙ ap keptOf (sym is);
         order = open-start .place;
         within = omega arith;
         short = omega (arith, short, ap length (open-start .rest), length-drop at work);

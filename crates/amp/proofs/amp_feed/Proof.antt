@@ -119,7 +119,7 @@ module _ {M : Type 1} (𝓤 : URA M) (H : Heap 𝓤) (A : Atoms 𝓤) (W : Given
   Lent = MutSlice (named 2) κ″ i64 .own l (m ∷ [])
 
   abbrev Token : Item 𝓤
-  Token = ‵ (flft κ′ q′) ⊛ ‵ ftrue
+  Token = F.Token 𝓤 H A W at-mem run κ′ q′ h s
 
   abbrev Token″ : Item 𝓤
   Token″ = ‵ (flft κ″ q″) ⊛ ‵ ftrue

@@ -22,7 +22,7 @@ use Rattle.heads.specs.declared.Seen as SeenType
 use Rattle.heads.specs.declared.Seen.the-variants.{Good}
 use Rattle.heads.proofs.Starts.{seen-good, good-seen}
 use Rattle.seek.specs.Sought.{firstFrom}
-use Rattle.seek.proofs.Firsts.{other-first, part-first}
+use Rattle.seek.proofs.Firsts.{other-first, part-first, part-settled}
 use Rattle.seek.specs.declared.First.{First}
 use Rattle.seek.specs.declared.First.the-variants.{At, Nothing}
 use Rattle.seek.proofs.first_good.Statement.{statement}
@@ -114,7 +114,7 @@ loop-again-2 c =
     let loop = c .before .before .before .before .before .before .loop in
     let a = c .before .before .before .before .before .before .before .before .before .args in
     goes-on (a .family) (a .s .now) (a .from) (loop .at) (loop .inv)
-    (bad-not-good (ap (head (a .family)) (sym (whole-rest (a .s .now) (loop .at))) ∙ c .before .soon-settled .ensures (c .if2 .taken) .0))
+    (bad-not-good (part-settled (a .family) (a .s .now) (loop .at) _ (c .before .soon-settled .ensures (c .if2 .taken)) .0))
 
 sub-examine : tie.Need-sub-examine Inv-loop μ-loop
 sub-examine c = omega arith

@@ -2,7 +2,7 @@
 -- reach that settled those. The measure is what is left of the bytes.
 -- Assumes nothing.
 use Prim.Native.Nat.{ℕ, max, _+_, _-_, _≤_}
-use mathlib.Core.Path.{_≡_, refl, sym, ap, subst, subst⁻¹, _∙_}
+use mathlib.Core.Path.{_≡_, refl, sym, ap, subst⁻¹, _∙_}
 use mathlib.Core.List.{List}
 use native.Mathlib.Numerals.{add-one}
 use native.Mathlib.Omega.{arith}
@@ -20,7 +20,7 @@ use Rattle.seek_laws.proofs.Starts.{BadBefore, look-at-good, look-at-wait, look
 use Rattle.heads.specs.Seen.{seen}
 use Rattle.heads.proofs.Starts.{seen-good, seen-bad, seen-undecided}
 use Rattle.seek.specs.Sought.{soughtIn, SettledBy}
-use Rattle.seek.proofs.Firsts.{other-first, part-first}
+use Rattle.seek.proofs.Firsts.{other-first, part-first, part-settled}
 use Rattle.seek.specs.declared.Sought.{Sought}
 use Rattle.seek.specs.declared.Sought.the-variants.{Ready, Waiting}
 use Rattle.seek.proofs.seek.Statement.{statement}
@@ -77,7 +77,7 @@ abbrev μ-loop : tie.MeasureT-loop
 soon : (c : tie.After-soon-settled Inv-loop μ-loop) → (c .soon-settled .result ≡ 0 → ⊥) → SettledBy (c .before .before .before .before .before .before .before .before .args .family) (drop (c .before .before .before .before .before .loop .at) (c .before .before .before .before .before .before .before .before .args .s .now)) (c .soon-settled .result)
 soon c some =
     let a = c .before .before .before .before .before .before .before .before .args in
-    subst (λ (l : List ℕ). SettledBy (a .family) l (c .soon-settled .result)) (whole-rest (a .s .now) (c .before .before .before .before .before .loop .at)) (c .soon-settled .ensures some)
+    part-settled (a .family) (a .s .now) (c .before .before .before .before .before .loop .at) _ (c .soon-settled .ensures some)
 
 -- what was seen there
 here : (c : tie.After-examine Inv-loop μ-loop) → c .examine .result ≡ seen (c .before .before .before .before .before .before .before .before .before .before .before .args .family) (drop (c .before .before .before .before .before .before .before .before .loop .at) (c .before .before .before .before .before .before .before .before .before .before .before .args .s .now))

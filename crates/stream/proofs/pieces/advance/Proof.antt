@@ -10,6 +10,7 @@ use lib.ListN.{length, take, drop, length-take, length-drop, take-append-drop, d
 use lib.Seq.{take-all}
 use Rattle.stream_rules.specs.Heads.{head}
 use Rattle.stream_rules.specs.Rule.{call}
+use Rattle.head_laws.proofs.Lists.{whole-rest}
 use Rattle.stream_laws.proofs.States.{longest-fits}
 use Rattle.stream.specs.Turns.{callOn, turnWith, turnedFrom, turned}
 use Rattle.stream.proofs.Onward.{stays-ready, Goes, waits-on}
@@ -88,17 +89,13 @@ part-turn-of-start c = search needs
 part-turn-of-end : tie.Need-part-turn-of-end
 part-turn-of-end c = search needs
 
--- the bytes from there on
-rest-is : (from : ℕ) (bs : List ℕ) → take (length bs - from) (drop from bs) ≡ drop from bs
-rest-is from bs = take-all (length bs - from) (drop from bs) (omega (arith, length-drop from bs))
-
 turn-of-requires-2 : tie.Need-turn-of-requires-2
 turn-of-requires-2 c κs =
     let start = c .before .before .before .before .before .before .before .before .before .before .before .before .before .before in
     let a = start .args in
     let from = 133 - c .before .before .before .before .before .before .before .take-piece .result .count in
     let goes = next (c .before .before .before .before) in
-    let size = ap length (rest-is from (a .offered .now)) ∙ length-drop from (a .offered .now) in (
+    let size = ap length (whole-rest (a .offered .now) from) ∙ length-drop from (a .offered .now) in (
       (omega (arith, size, fits (c .before .before .before), c .before .before .before .before .before .before .if3 .left), goes .short),
       ((omega (arith, size, goes .all-taken, start .good), omega (arith, size, goes .few-skipped, start .good, start .pre .0 .1)), refl),
     )
@@ -109,7 +106,7 @@ returns-5 c =
     let count = c .before .before .before .before .before .before .before .before .take-piece .result .count in
     let step = c .before .before .before .before .before .step .given .0 in
     c .turn-of2 .ensures
-    ∙ ap (λ (l : List ℕ). turnedFrom (step .0) (step .1 .0) (callOn (a .family) l count)) (rest-is (133 - count) (a .offered .now))
+    ∙ ap (λ (l : List ℕ). turnedFrom (step .0) (step .1 .0) (callOn (a .family) l count)) (whole-rest (a .offered .now) (133 - count))
     ∙ next (c .before .before .before .before .before) .goes-on
 
 pub advance-spec : {M : Type 1} → statement M
