@@ -6,13 +6,15 @@
  * For each family and kind of capture: the bytes per second of both listers, the proved one's time
  * divided by the plain one's, how the time per byte grows from captures of 4,096 bytes to captures of
  * 65,536, and the stream reader's time divided by the proved lister's, in calls of 1, 16 and 4,096
- * bytes. The measures take turns, so that whatever else the machine does falls on all of them, and the
+ * bytes; beside that the time of as many calls that do next to nothing (least.c), divided by the same. The
+ * measures take turns, so that whatever else the machine does falls on all of them, and the
  * best turn of each with each capture counts: anything else only makes one slower. The clock is that of
  * the process, which stands while another process has the processor.
  *
  * All of them have to find the same starts; the first difference ends it with status 1. */
 #include "amp.h"
 #include "captures.h"
+#include "least.h"
 #include "plain.h"
 #include "sys.h"
 
@@ -22,6 +24,7 @@
 
 static unsigned char captures[CAPTURES][LENGTH];
 static uint32_t starts[LENGTH], others[LENGTH];
+static size_t frames_in[CAPTURES];
 
 static double now(void)
 {
@@ -87,14 +90,33 @@ static size_t by_stream(unsigned family, const unsigned char *s, size_t piece)
     return offer(&reader, s, 0, frames);
 }
 
-enum { PROVED, PLAIN, PROVED_SHORT, PLAIN_SHORT, STREAM_1, STREAM_16, STREAM_4096, MEASURES };
+/* As many calls as the stream makes: one for each piece, and one for each frame. */
+static size_t by_least(unsigned family, const unsigned char *s, size_t piece)
+{
+    amp_reader reader;
+    int64_t row[AMP_ROW];
+    size_t i, taken = 0, calls = LENGTH / piece + frames_in[(size_t)(s - captures[0]) / LENGTH];
+
+    amp_fresh(&reader, family);
+    for (i = 0; i < calls; i++) {
+        least_feed(&reader, s + i % LENGTH, 1, row, AMP_ROW);
+        taken += (size_t)row[AMP_TAKEN];
+    }
+    return taken;
+}
+
+enum {
+    PROVED, PLAIN, PROVED_SHORT, PLAIN_SHORT, STREAM_1, STREAM_16, STREAM_4096, LEAST_1, LEAST_16, LEAST_4096,
+    MEASURES
+};
 
 static const struct measure {
     size_t (*run)(unsigned family, const unsigned char *s, size_t piece);
     size_t piece;
 } measures[MEASURES] = {
     {by_proved, LENGTH}, {by_plain, LENGTH}, {by_proved, SHORT}, {by_plain, SHORT},
-    {by_stream, 1}, {by_stream, 16}, {by_stream, SHORT}
+    {by_stream, 1}, {by_stream, 16}, {by_stream, SHORT},
+    {by_least, 1}, {by_least, 16}, {by_least, SHORT}
 };
 
 /* ---- Timing --------------------------------------------------------------------------------- */
@@ -148,17 +170,19 @@ static int same_starts(size_t count, size_t other)
     return count == other && memcmp(starts, others, count * sizeof *starts) == 0;
 }
 
-/* Whether both listers and the stream find the same starts in a capture. */
-static int agree(unsigned family, const unsigned char *s)
+/* Whether both listers and the stream find the same starts in a capture; how many there are is noted. */
+static int agree(unsigned family, unsigned i)
 {
+    const unsigned char *s = captures[i];
     size_t count = 77, plain = 78;
     unsigned which;
 
     if (amp_list(family, s, LENGTH, starts, LENGTH, &count) != 0)
         return 0;
+    frames_in[i] = count;
     if (plain_list(family, s, LENGTH, others, LENGTH, &plain) != 0 || !same_starts(count, plain))
         return 0;
-    for (which = STREAM_1; which < MEASURES; which++) {
+    for (which = STREAM_1; which <= STREAM_4096; which++) {
         memset(others, 0xFF, sizeof others);
         if (!same_starts(count, by_stream(family, s, measures[which].piece)))
             return 0;
@@ -168,7 +192,28 @@ static int agree(unsigned family, const unsigned char *s)
 
 /* ---- The table ------------------------------------------------------------------------------ */
 
+#define ASKED 4.0 /* the stream is to take at most so many times the lister's time */
+
 static double worst, sum_proved, sum_plain;
+static unsigned within, beyond, over; /* of the stream's measures: at most that; more, as the least calls do; more */
+
+static void print_stream(double proved)
+{
+    unsigned which;
+
+    for (which = STREAM_1; which <= STREAM_4096; which++) {
+        double stream = time_of(which) / proved, least = time_of(which - STREAM_1 + LEAST_1) / proved;
+
+        printf(" %6.*f (%4.1f)", which == STREAM_4096 ? 2 : 1, stream, least);
+        if (stream <= ASKED)
+            within++;
+        else if (least > ASKED)
+            beyond++;
+        else
+            over++;
+    }
+    printf("\n");
+}
 
 static void print_line(unsigned family, unsigned kind)
 {
@@ -178,10 +223,10 @@ static void print_line(unsigned family, unsigned kind)
         worst = proved / plain;
     sum_proved += proved;
     sum_plain += plain;
-    printf("%6u %-13s %8.0f %8.0f %6.2f   %6.2f %6.2f   %6.1f %6.1f %6.2f\n",
+    printf("%6u %-13s %8.0f %8.0f %6.2f   %6.2f %6.2f  ",
            family, kind_name(kind), bytes / proved, bytes / plain, proved / plain,
-           proved / time_of(PROVED_SHORT), plain / time_of(PLAIN_SHORT),
-           time_of(STREAM_1) / proved, time_of(STREAM_16) / proved, time_of(STREAM_4096) / proved);
+           proved / time_of(PROVED_SHORT), plain / time_of(PLAIN_SHORT));
+    print_stream(proved);
 }
 
 static int one_kind(unsigned family, unsigned kind, unsigned rounds)
@@ -190,7 +235,7 @@ static int one_kind(unsigned family, unsigned kind, unsigned rounds)
 
     for (i = 0; i < CAPTURES; i++) {
         make_capture(family, kind, 1000 + i, captures[i], LENGTH);
-        if (!agree(family, captures[i])) {
+        if (!agree(family, i)) {
             printf("family %u %s: not the same starts in capture %u\n", family, kind_name(kind), i);
             return 0;
         }
@@ -206,13 +251,14 @@ int main(int argc, char **argv)
     unsigned family, kind;
 
     printf("captures of %u bytes, best of %u rounds\n", LENGTH, rounds);
-    printf("                     million bytes/s  time   growth 4,096 to   stream's time / proved\n");
-    printf("family kind            proved    plain  ratio   65,536: both      by  1     16   4,096\n");
+    printf("                     million bytes/s  time   growth 4,096 to    stream's time (that of the least calls) / proved\n");
+    printf("family kind            proved    plain  ratio   65,536: both        by  1            16         4,096\n");
     for (family = 1; family <= 3; family++)
         for (kind = 0; kind < KINDS; kind++)
             if (!one_kind(family, kind, rounds))
                 return 1;
     printf("all find the same starts; time proved / plain: %.2f over all, %.2f at worst\n",
            sum_proved / sum_plain, worst);
+    printf("stream within %.0f times the lister: %u; more, and the least calls too: %u; more: %u\n", ASKED, within, beyond, over);
     return 0;
 }

@@ -8,18 +8,11 @@ use Rattle.laws.proofs.Single.{one-answer}
 use Rattle.stream_rules.specs.Lister.{order}
 use Rattle.stream_rules.specs.declared.Reader.{Reader}
 use Rattle.rows.proofs.Single.{lays-single}
-use Rattle.amp.specs.Boundary.{Freshens, FeedsRow, Closes, ReadsRow, ListsStarts, Nexts, orderNumber}
+use Rattle.amp.specs.Boundary.{Freshens, Closes, ReadsRow, ListsStarts, Nexts, orderNumber}
 
 pub freshens-single : (family : ℕ) (reader : Reader) (a b : ℕ) (x y : Reader) → Freshens family reader a x → Freshens family reader b y
     → (a ≡ b) × (x ≡ y)
 freshens-single family reader a b x y p q = (one-answer (p .answers) (q .answers), one-answer (p .leaves) (q .leaves))
-
-pub feeds-single : (reader : Reader) (offered : List ℕ) (numbers : List ℤ) (a b : ℕ) (x y : Reader) (l m : List ℤ)
-    → FeedsRow reader offered numbers a x l → FeedsRow reader offered numbers b y m
-    → (a ≡ b) × (x ≡ y) × (l ≡ m)
-feeds-single reader offered numbers a b x y l m p q =
-    let laid = lays-single _ _ numbers a b l m (p .lays) (q .lays) in
-    (laid .0, p .leaves ∙ rw (laid .0) (sym (q .leaves)), laid .1)
 
 pub closes-single : (reader : Reader) (a b : ℕ) (x y : Reader) → Closes reader a x → Closes reader b y → (a ≡ b) × (x ≡ y)
 closes-single reader a b x y p q = (one-answer (p .answers) (q .answers), one-answer (p .leaves) (q .leaves))

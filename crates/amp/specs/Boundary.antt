@@ -9,7 +9,7 @@ use lib.Dec.{eqb}
 use lib.IntN.{ℤ}
 use lib.ListN.{length}
 use Rattle.rules.specs.Answers.{isFamily, readOne, said}
-use Rattle.stream_rules.specs.Streams.{fed, shut, fresh, saidToFeed, saidToTurn}
+use Rattle.stream_rules.specs.Streams.{shut, fresh, saidToTurn}
 use Rattle.stream_rules.specs.Lister.{listed, listLeft, saidToList}
 use Rattle.stream_rules.specs.declared.Reader.{Reader}
 use Rattle.stream_rules.specs.declared.Listed.{Listed}
@@ -17,18 +17,12 @@ use Rattle.stream_rules.specs.declared.Listed.the-variants.{Count, Refused}
 use Rattle.stream_rules.specs.declared.Order.{Order}
 use Rattle.stream_rules.specs.declared.Order.the-variants.{Earlier, Later, Equal, CannotSay}
 use Rattle.finds.specs.Finds.{nextIn}
-use Rattle.rows.specs.Rows.{rowFed, rowRead, refusalOf, Lays}
+use Rattle.rows.specs.Rows.{rowRead, refusalOf, Lays}
 
 -- A fresh reader; where there is no such family, the reader is as it was.
 pub record Freshens (family : ℕ) (reader : Reader) (result : ℕ) (after : Reader) : Type 0 where
   pub answers : result ≡ refusalOf (saidToTurn (fresh family .outcome))
   pub leaves : after ≡ cond (isFamily family) (fresh family .reader) reader
-
--- A call that offers bytes. Where its number is not 0, for a refusal of the stream or because the row has no room, the reader
--- is as it was: nothing is fed.
-pub record FeedsRow (reader : Reader) (offered : List ℕ) (numbers : List ℤ) (result : ℕ) (after : Reader) (left : List ℤ) : Type 0 where
-  pub lays : Lays (saidToFeed (fed reader offered .answer)) (rowFed (fed reader offered .answer)) numbers result left
-  pub leaves : after ≡ cond (eqb result 0) (fed reader offered .reader) reader
 
 -- Closing; the reader is as it was where it is refused.
 pub record Closes (reader : Reader) (result : ℕ) (after : Reader) : Type 0 where

@@ -1,8 +1,7 @@
 // The C boundary: the reader of one frame, the streams, the lister, the capture reader's search, the
 // writers and the order of stamps, as functions that a C program calls. Each gives one number back, of most of
 // them that of a refusal or 0, and leaves the rest in memory that is lent to it. Those on a lent
-// reader are thin over calls by value.
-use stream_rules::Fed;
+// reader are thin over calls by value, but that which feeds it: there the reader is altered where it stands.
 use stream_rules::Listed;
 use stream_rules::Order;
 use stream_rules::Outcome;
@@ -10,13 +9,14 @@ use stream_rules::Reader;
 ghost use mathlib.Core.Path.{_≡_};
 ghost use mathlib.Core.Bool.{true, cond};
 ghost use lib.Dec.{leb};
-ghost use Rattle.stream_rules.specs.Streams.{saidToFeed, saidToTurn};
+ghost use Rattle.stream_rules.specs.Streams.{saidToTurn};
 ghost use Rattle.stream_rules.specs.Lister.{order};
 ghost use Rattle.rules.specs.Answers.{noRoom};
 ghost use Rattle.rules.specs.Sentences.{enableBytes};
-ghost use Rattle.rows.specs.Rows.{rowFed, refusalOf, Lays};
+ghost use Rattle.rows.specs.Rows.{refusalOf};
 ghost use Rattle.given.specs.Given.{WritesNumbers, WritesGiven};
-ghost use Rattle.amp.specs.Boundary.{Freshens, FeedsRow, Closes, ReadsRow, ListsStarts, Nexts, orderNumber};
+ghost use Rattle.fed_rows.specs.FedRows.{FeedsRow};
+ghost use Rattle.amp.specs.Boundary.{Freshens, Closes, ReadsRow, ListsStarts, Nexts, orderNumber};
 
 // A reader after a call, and the number that the call gives.
 struct After {
@@ -64,14 +64,6 @@ fn freshened(reader: Reader, family: u32) -> After
     }
 }
 
-// The row of what a call on a stream answered.
-fn laid(called: Fed, numbers: &mut [i64]) -> u32
-    ensures { λ r. ⌜ Lays (saidToFeed (called .answer)) (rowFed (called .answer)) (now (numbers .entry)) r (now (numbers .exit)) ⌝ }
-{
-    let answer = called.answer;
-    rows::lay_answer(answer, numbers)
-}
-
 // A closed reader.
 fn closed(reader: Reader) -> After
     ensures { λ r. ⌜ Closes reader (r .number) (r .reader) ⌝ }
@@ -96,19 +88,26 @@ pub extern "C" fn amp_fresh(reader: &mut Reader, family: u32) -> u32
     after.number
 }
 
-// Offers bytes to the lent reader, and lays the row of what it answers. Where the call is refused, or its
-// row has no room, the reader is not written: no copy of it is made that is not needed.
+// Offers bytes to the lent reader, and lays the row of what it answers. The reader's held places are lent on,
+// so that no copy of it is made; where the call is refused, what is stored is what stood there.
 #[no_mangle]
 pub extern "C" fn amp_feed(reader: &mut Reader, offered: &[u8], numbers: &mut [i64]) -> u32
     ensures { λ r. ⌜ FeedsRow (now (reader .entry)) (now (offered .entry)) (now (numbers .entry)) r (now (reader .exit)) (now (numbers .exit)) ⌝ }
 {
-    let was = *reader;
-    let called = stream::feed(was, offered);
-    let number = laid(called, numbers);
-    if number == 0 {
-        *reader = called.reader;
-    }
-    number
+    let counts = fed_rows::feed_row(
+        reader.family,
+        reader.closed,
+        reader.count,
+        reader.at,
+        reader.skipped,
+        &mut reader.held,
+        offered,
+        numbers,
+    );
+    reader.count = counts.count;
+    reader.at = counts.at;
+    reader.skipped = counts.skipped;
+    counts.number
 }
 
 // Closes the lent reader.

@@ -1,71 +1,115 @@
--- What is seen, from what stands at the head: for the code that examines a start.
--- Assumes nothing.
+-- What is seen of a start, from what stands at its head, for the code that examines it; and back, for the code that goes
+-- by what was seen.
+-- By the tests of the definitions: a good frame is settled by as many bytes as it has. Assumes nothing.
 use Prim.Native.Nat.{ℕ, _<_}
 use mathlib.Core.Path.{_≡_, refl, sym, ap, subst⁻¹, _∙_}
+use mathlib.Core.Bool.{Bool, true, false, cond}
 use mathlib.Core.List.{List}
+use mathlib.Core.Logic.{⊎-elim}
 use native.Mathlib.Omega.{arith}
-use lib.ListN.{length, take}
+use borrow.Author.Tests.{eq-eqb, ne-eqb, eqb-true, eqb-false}
+use lib.Dec.{eqb}
+use lib.ListN.{length, take, getD}
 use Rattle.rules.specs.Answers.{readOne}
-use Rattle.rules.specs.declared.Frame.{Frame}
-use Rattle.rules.specs.declared.Reading.{Reading}
-use Rattle.rules.specs.declared.Reading.the-variants.{Good, Refused}
-use Rattle.stream_rules.specs.Heads.{Head, wait, bad, good, headOf, head}
-use Rattle.stream_rules.specs.Rule.{byHead}
+use Rattle.laws.proofs.Bytes.{answer}
+use Rattle.stream_rules.specs.Heads.{wait, bad, needs, lengthAt, undecided as waits, headOf, head}
 use Rattle.stream_rules.specs.Settled.{settled}
-use Rattle.head_laws.proofs.PacketStarts.{Marks, few-marks}
-use Rattle.heads.specs.Seen.{seen, asWhole, wholeIn}
-use Rattle.heads.specs.declared.Seen.the-variants.{Good as SeenGood, Bad, Undecided}
+use Rattle.head_laws.proofs.Course.{headOf-decided, headOf-bad}
+use Rattle.head_laws.proofs.Heads.{good-head}
+use Rattle.head_laws.proofs.PacketStarts.{Marks, few-marks, needs-six}
+use Rattle.heads.specs.Seen.{seen}
+use Rattle.heads.specs.declared.Seen as SeenType
+use Rattle.heads.specs.declared.Seen.the-variants.{Whole, Bad, Undecided}
+
+-- the definition's two tests
+abbrev by : Bool → Bool → ℕ → ℕ → SeenType.Seen
+by waiting whole n d = cond waiting Undecided (cond whole (Whole n) (Bad d))
+
+is-undecided : (u w : Bool) (n d : ℕ) → by u w n d ≡ Undecided → u ≡ true
+is-undecided true w n d e = refl
+is-undecided false true n d e = cc
+is-undecided false false n d e = cc
+
+is-bad : (u w : Bool) (n d k : ℕ) → by u w n d ≡ Bad k → (u ≡ false) × ((w ≡ false) × (d ≡ k))
+is-bad true w n d k e = (cc, (cc, cc))
+is-bad false true n d k e = (refl, (cc, cc))
+is-bad false false n d k e = (refl, (refl, cc))
+
+is-whole : (u w : Bool) (n d k : ℕ) → by u w n d ≡ Whole k → (u ≡ false) × ((w ≡ true) × (n ≡ k))
+is-whole true w n d k e = (cc, (cc, cc))
+is-whole false true n d k e = (refl, (refl, cc))
+is-whole false false n d k e = (refl, (cc, cc))
 
 module _ (family : ℕ) (bs : List ℕ) where
+  abbrev size : ℕ
+  size = lengthAt family bs
+
+  -- the head and what is seen, by the first test
+  head-by : (b : Bool) → waits family bs ≡ b → head family bs ≡ cond b wait (headOf size (readOne family (take size bs)))
+  unfolding head
+  head-by b e = rw e
+
+  seen-by : (u w : Bool) → waits family bs ≡ u → eqb (settled family bs) size ≡ w → by u w size (settled family bs) ≡ seen family bs
+  unfolding seen
+  seen-by u w is-u is-w = λ i. by (sym is-u i) (sym is-w i) size (settled family bs)
+
+  -- a head that waits is undecided, and no other
+  waiting : head family bs ≡ wait → waits family bs ≡ true
+  waiting e =
+      ⊎-elim (λ yes. yes) (λ no. absurd (headOf-decided size (readOne family (take size bs)) (sym (head-by false no) ∙ e))) (answer (waits family bs))
+
+  decided : (head family bs ≡ wait → ⊥) → waits family bs ≡ false
+  decided never = ⊎-elim (λ yes. absurd (never (head-by true yes))) (λ no. no) (answer (waits family bs))
+
   pub undecided : head family bs ≡ wait → Undecided ≡ seen family bs
+  undecided e = seen-by true _ (waiting e) refl
+
+  pub bad-start : (d : ℕ) → (head family bs ≡ bad) × (settled family bs ≡ d) → (d ≡ size → ⊥) → Bad d ≡ seen family bs
+  bad-start d e other =
+      ap Bad (sym (e .1))
+      ∙ seen-by false false
+      (decided (λ w. let z : _≡_ {A = ℕ} 0 1 = cc (e .0) in omega arith))
+      (ne-eqb (settled family bs) size (λ same. other (sym (e .1) ∙ same)))
+
+  pub by-whole : (n : ℕ) → (head family bs ≡ headOf n (readOne family (take n bs))) × (settled family bs ≡ n) → size ≡ n → Whole n ≡ seen family bs
+  by-whole n e is =
+      ap Whole (sym is)
+      ∙ seen-by false true
+      (decided (λ w. headOf-decided n (readOne family (take n bs)) (sym (e .0) ∙ w)))
+      (eq-eqb (settled family bs) size (e .1 ∙ sym is))
+
+  -- and back: what stands at the head, from what is seen
+  pub seen-undecided : seen family bs ≡ Undecided → head family bs ≡ wait
   unfolding seen
-  undecided e = ap (λ (h : Head). byHead h Undecided (Bad (settled family bs)) SeenGood) (sym e)
-
-  pub bad-start : (d : ℕ) → (head family bs ≡ bad) × (settled family bs ≡ d) → Bad d ≡ seen family bs
-  unfolding seen
-  bad-start d e = λ i. byHead (sym (e .0) i) Undecided (Bad (sym (e .1) i)) SeenGood
-
-  decided : (n : ℕ) (r : Reading) → asWhole n r ≡ byHead (headOf n r) Undecided (Bad n) SeenGood
-  decided n (Good f) = refl
-  decided n (Refused number) = refl
-
-  pub by-whole : (n : ℕ) → (head family bs ≡ headOf n (readOne family (take n bs))) × (settled family bs ≡ n) → wholeIn family n bs ≡ seen family bs
-  unfolding seen wholeIn
-  by-whole n e = decided n (readOne family (take n bs)) ∙ (λ i. byHead (sym (e .0) i) Undecided (Bad (sym (e .1) i)) SeenGood)
-
--- and back: what stands at the head, from what is seen
-module _ (family : ℕ) (bs : List ℕ) where
-  pub seen-good : (n : ℕ) (f : Frame) → seen family bs ≡ SeenGood n f → head family bs ≡ good n f
-  unfolding seen
-  seen-good n f e = back (head family bs) e
-    where
-      back : (h : Head) → byHead h Undecided (Bad (settled family bs)) SeenGood ≡ SeenGood n f → h ≡ good n f
-      back wait p = let z : _≡_ {A = ℕ} 0 1 = cc in absurd (omega arith)
-      back bad p = let z : _≡_ {A = ℕ} 0 1 = cc in absurd (omega arith)
-      back (good m g) p = cc
-
-  pub good-seen : (n : ℕ) (f : Frame) → head family bs ≡ good n f → seen family bs ≡ SeenGood n f
-  unfolding seen
-  good-seen n f e = ap (λ (h : Head). byHead h Undecided (Bad (settled family bs)) SeenGood) e
+  seen-undecided e = head-by true (is-undecided (waits family bs) (eqb (settled family bs) size) size (settled family bs) e)
 
   pub seen-bad : (d : ℕ) → seen family bs ≡ Bad d → (head family bs ≡ bad) × (settled family bs ≡ d)
   unfolding seen
-  seen-bad d e = back (head family bs) e
-    where
-      back : (h : Head) → byHead h Undecided (Bad (settled family bs)) SeenGood ≡ Bad d → (h ≡ bad) × (settled family bs ≡ d)
-      back wait p = let z : _≡_ {A = ℕ} 0 1 = cc in absurd (omega arith)
-      back bad p = (refl, cc)
-      back (good m g) p = let z : _≡_ {A = ℕ} 0 1 = cc in absurd (omega arith)
+  seen-bad d e =
+      let h = is-bad (waits family bs) (eqb (settled family bs) size) size (settled family bs) d e in
+      let at = head-by false (h .0) in (
+        at ∙ headOf-bad size (readOne family (take size bs)) (λ f read. eqb-false (settled family bs) size (h .1 .0) (good-head family bs size f (at ∙ ap (headOf size) read) .settles)),
+        h .1 .1,
+      )
 
-  pub seen-undecided : seen family bs ≡ Undecided → head family bs ≡ wait
+  pub seen-whole : (n : ℕ) → seen family bs ≡ Whole n → (head family bs ≡ headOf n (readOne family (take n bs))) × (settled family bs ≡ n)
   unfolding seen
-  seen-undecided e = back (head family bs) e
-    where
-      back : (h : Head) → byHead h Undecided (Bad (settled family bs)) SeenGood ≡ Undecided → h ≡ wait
-      back wait p = refl
-      back bad p = let z : _≡_ {A = ℕ} 0 1 = cc in absurd (omega arith)
-      back (good m g) p = let z : _≡_ {A = ℕ} 0 1 = cc in absurd (omega arith)
+  seen-whole n e =
+      let h = is-whole (waits family bs) (eqb (settled family bs) size) size (settled family bs) n e in (
+        head-by false (h .0) ∙ ap (λ (k : ℕ). headOf k (readOne family (take k bs))) (h .1 .1),
+        eqb-true (settled family bs) size (h .1 .0) ∙ h .1 .1,
+      )
 
--- k marks and nothing more, k below four: undecided
-pub few : (family : ℕ) (spe : family ≡ 2 → ⊥) (bs : List ℕ) (k : ℕ) → length bs ≡ k → k < 4 → Marks family k bs → Undecided ≡ seen family bs
-few family spe bs k e h m = undecided family bs (few-marks family spe bs (omega arith) (subst⁻¹ (λ (n : ℕ). Marks family n bs) e m))
+-- Of an SPE family: k marks and nothing more, k below four, is undecided; a start that fewer than six bytes settle is bad,
+-- since no count needs so few; and the length is what the count needs.
+module _ (family : ℕ) (spe : family ≡ 2 → ⊥) (bs : List ℕ) where
+  pub few : (k : ℕ) → length bs ≡ k → k < 4 → Marks family k bs → Undecided ≡ seen family bs
+  few k e h m = undecided family bs (few-marks family spe bs (omega arith) (subst⁻¹ (λ (n : ℕ). Marks family n bs) e m))
+
+  pub counted : lengthAt family bs ≡ needs family (getD bs 3 0)
+  counted = rw (ne-eqb family 2 spe)
+
+  pub bad-packet : (d : ℕ) → 0 < d → d < 6 → (head family bs ≡ bad) × (settled family bs ≡ d) → Bad d ≡ seen family bs
+  bad-packet d some low e =
+      bad-start family bs d e
+      (λ same. let is : d ≡ needs family (getD bs 3 0) = same ∙ counted in omega (arith, needs-six family (getD bs 3 0) (omega (arith, is, some)), is, low))

@@ -1,23 +1,17 @@
--- What is seen at the head of some bytes, in the words of the rules.
+-- What is seen of a start before a frame is read there, in the words of the rules.
 use Prim.Native.Nat.{ℕ}
+use mathlib.Core.Bool.{cond}
 use mathlib.Core.List.{List}
-use lib.ListN.{take}
-use Rattle.rules.specs.Answers.{readOne}
-use Rattle.rules.specs.declared.Reading.{Reading}
-use Rattle.rules.specs.declared.Reading.the-variants.{Good, Refused}
-use Rattle.stream_rules.specs.Heads.{head}
-use Rattle.stream_rules.specs.Rule.{byHead}
+use lib.Dec.{eqb}
+use Rattle.stream_rules.specs.Heads.{undecided, lengthAt}
 use Rattle.stream_rules.specs.Settled.{settled}
 use Rattle.heads.specs.declared.Seen as SeenType
-use Rattle.heads.specs.declared.Seen.the-variants.{Good as SeenGood, Bad, Undecided}
+use Rattle.heads.specs.declared.Seen.the-variants.{Whole, Bad, Undecided}
 
+-- A start that is not undecided is bad, unless it was settled by as many bytes as a frame there has: of those the reader
+-- of one frame decides.
 unfoldable pub seen : ℕ → List ℕ → SeenType.Seen
-seen family bs = byHead (head family bs) Undecided (Bad (settled family bs)) SeenGood
-
--- what the first n bytes are, as a whole
-abbrev pub asWhole : ℕ → Reading → SeenType.Seen
-asWhole n (Good f) = SeenGood n f
-asWhole n (Refused number) = Bad n
-
-unfoldable pub wholeIn : ℕ → ℕ → List ℕ → SeenType.Seen
-wholeIn family n bs = asWhole n (readOne family (take n bs))
+seen family bs =
+    cond (undecided family bs) Undecided
+    (cond (eqb (settled family bs) (lengthAt family bs)) (Whole (lengthAt family bs))
+    (Bad (settled family bs)))

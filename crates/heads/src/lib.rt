@@ -1,30 +1,18 @@
-// What stands at the head of some bytes: a good frame, a bad start with the number of bytes that
-// settled it, or an undecided start.
-use leaves::text;
-use rules::Frame;
-use rules::Reading;
+// What is known of a start before a frame is read there: a bad start with the number of bytes that settled
+// it, an undecided one, or as many bytes as a frame there has. (The frame is read by whoever wants it:
+// through here it would be copied twice.)
 use starts::bytes_needed;
 use starts::mark_of;
 use starts::payload_bytes;
 ghost use mathlib.Core.Path.{_≡_};
-ghost use Rattle.heads.specs.Seen.{seen, wholeIn};
+ghost use Rattle.heads.specs.Seen.{seen};
 
 pub enum Seen {
-    // a good frame: its length, and what it says
-    Good(usize, Frame),
+    // so many bytes, which the reader of one frame decides as a whole
+    Whole(usize),
     // a bad start: how many bytes settled that
     Bad(usize),
     Undecided,
-}
-
-// What the first n bytes are, as a whole.
-fn whole(family: u8, s: &[u8], n: usize) -> Seen
-    ensures { λ r. ⌜ r ≡ wholeIn family n (now (s .entry)) ⌝ }
-{
-    match frames::read_frame(family, text(s, 0, n)) {
-        Reading::Good(f) => Seen::Good(n, f),
-        Reading::Refused(_) => Seen::Bad(n),
-    }
 }
 
 // A start of an SPE family.
@@ -61,7 +49,7 @@ fn examine_packet(family: u8, s: &[u8]) -> Seen
     if s.len() < n {
         return Seen::Undecided;
     }
-    whole(family, s, n)
+    Seen::Whole(n)
 }
 
 // A start of the Alpha's family.
@@ -87,10 +75,10 @@ fn examine_sentence(s: &[u8]) -> Seen
     if s.len() < n + 6 {
         return Seen::Undecided;
     }
-    whole(2, s, n + 6)
+    Seen::Whole(n + 6)
 }
 
-// What stands at the head of the bytes, read as a stream of the family.
+// What is known of the start of the bytes, read as a stream of the family.
 pub fn examine(family: u8, s: &[u8]) -> Seen
     ensures { λ r. ⌜ r ≡ seen family (now (s .entry)) ⌝ }
 {

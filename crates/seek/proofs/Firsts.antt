@@ -10,10 +10,9 @@ use borrow.Author.Tests.{ne-eqb}
 use lib.Dec.{lit<}
 use native.Mathlib.Nat.{add-zero}
 use native.Mathlib.Omega.{arith}
-use lib.ListN.{length, take, drop, getD, length-drop}
+use lib.ListN.{length, drop, getD, length-drop}
 use lib.Seq.{getD-drop}
 use Rattle.stream_rules.specs.Heads.{markOf}
-use Rattle.head_laws.proofs.Lists.{whole-rest}
 use Rattle.head_laws.proofs.PacketStarts.{no-marks, no-mark}
 use Rattle.head_laws.proofs.SentenceStarts.{no-dollar}
 use Rattle.seek.specs.Sought.{firstOf, SettledBy}
@@ -31,7 +30,7 @@ not-first family bs some other =
           no-mark family spe bs 0 (lit< tt) some (no-marks family bs) (λ e. other (e ∙ sym (first-mark family spe)))
     ]
 
--- the same of a start within some bytes, and of the part from there on its first byte
+-- the same of a start within some bytes
 at-first : (s : List ℕ) (at : ℕ) → getD (drop at s) 0 0 ≡ getD s at 0
 at-first s at = getD-drop at s 0 0 ∙ ap (λ (k : ℕ). getD s k 0) (add-zero at)
 
@@ -39,10 +38,3 @@ pub other-first : (family : ℕ) (s : List ℕ) (at first : ℕ) → at < length
     → SettledBy family (drop at s) 1
 other-first family s at first there is differs =
     not-first family (drop at s) (omega (arith, length-drop at s, there)) (λ e. differs (sym (at-first s at) ∙ e ∙ sym is))
-
--- what settles that part settles the start
-pub part-settled : (family : ℕ) (s : List ℕ) (at d : ℕ) → SettledBy family (take (length s - at) (drop at s)) d → SettledBy family (drop at s) d
-part-settled family s at d = subst (λ (l : List ℕ). SettledBy family l d) (whole-rest s at)
-
-pub part-first : (s : List ℕ) (at : ℕ) → getD (take (length s - at) (drop at s)) 0 0 ≡ getD s at 0
-part-first s at = ap (λ (l : List ℕ). getD l 0 0) (whole-rest s at) ∙ at-first s at

@@ -1,16 +1,18 @@
 -- What the walks along the starts give, in the words of the rules.
-use Prim.Native.Nat.{ℕ, _+_}
+use Prim.Native.Nat.{ℕ, _+_, _≤_, _<_}
 use Prim.Native.Char.{code}
 use mathlib.Core.Path.{_≡_}
 use mathlib.Core.Bool.{cond}
 use mathlib.Core.List.{List}
 use lib.Dec.{eqb}
-use lib.ListN.{drop}
-use Rattle.stream_rules.specs.Heads.{markOf, bad, head, atClose}
+use lib.ListN.{length, take, drop}
+use Rattle.rules.specs.Answers.{readOne}
+use Rattle.stream_rules.specs.Heads.{markOf, wait, bad, headOf, head, atClose}
 use Rattle.stream_rules.specs.Rule.{look, byLook}
 use Rattle.stream_rules.specs.Settled.{settled, reach}
 use Rattle.seek.specs.declared.Sought as SoughtType
 use Rattle.seek.specs.declared.Sought.the-variants.{Ready, Waiting}
+use Rattle.seek.specs.declared.Stop.{Stop}
 use Rattle.seek.specs.declared.First.{First}
 use Rattle.seek.specs.declared.First.the-variants.{At, Nothing}
 
@@ -21,6 +23,25 @@ firstOf family = cond (eqb family 2) (code "$") (markOf family)
 -- a bad start, and how many bytes settled it
 abbrev pub SettledBy : ℕ → List ℕ → ℕ → Type 0
 SettledBy family bs d = (head family bs ≡ bad) × (settled family bs ≡ d)
+
+-- What stands at a stop: behind the last start nothing; else an undecided start, or as many bytes as a frame there has, of
+-- which the reader of one frame decides.
+pub record Found (family : ℕ) (bs : List ℕ) (r : Stop) : Type 0 where
+  pub waits : r .size ≡ 0 → r .at < length bs → head family (drop (r .at) bs) ≡ wait
+  pub whole : (r .size ≡ 0 → ⊥)
+      → (head family (drop (r .at) bs) ≡ headOf (r .size) (readOne family (take (r .size) (drop (r .at) bs)))) × (settled family (drop (r .at) bs) ≡ r .size)
+
+-- A walk from a place on: the starts that it has passed are bad, and how far the bytes reach that settled them is counted on.
+pub record Walks (family : ℕ) (bs : List ℕ) (from far at on : ℕ) : Type 0 where
+  pub ahead : from ≤ at
+  pub within : from ≤ length bs → at ≤ length bs
+  pub passes : (j : ℕ) → from ≤ j → j < at → head family (drop j bs) ≡ bad
+  pub reaches : far ≡ reach family from bs → on ≡ reach family at bs
+
+-- the first stop from a place on
+pub record Stops (family : ℕ) (bs : List ℕ) (from far : ℕ) (r : Stop) : Type 0 where
+  pub walks : Walks family bs from far (r .at) (r .reach)
+  pub found : Found family bs r
 
 -- the first start that is not bad
 unfoldable pub soughtIn : ℕ → List ℕ → SoughtType.Sought

@@ -1,18 +1,18 @@
-// Walks the starts of some bytes: to the first that is not bad, or to the first good frame. A start that
-// little shows to be bad is passed over; any other is examined, once.
+// Walks the starts of some bytes: to the first that is not bad, or to the first good frame. Each start is
+// examined once, and a frame is read only where nothing rules it out.
+use frames::read_frame;
 use heads::Seen;
 use heads::examine;
 use leaves::further;
 use rules::Frame;
+use rules::Reading;
 use spe_tests::is_ack;
 use spe_tests::is_command;
-use starts::bytes_needed;
 use starts::mark_of;
 ghost use mathlib.Core.Path.{_≡_};
 ghost use mathlib.Core.Bool.{true, false};
-ghost use lib.ListN.{getD};
 ghost use Rattle.rules.specs.Answers.{isGood, readOne};
-ghost use Rattle.seek.specs.Sought.{firstOf, soughtIn, firstFrom, SettledBy};
+ghost use Rattle.seek.specs.Sought.{firstOf, soughtIn, firstFrom, Stops};
 
 // A good frame whose earlier starts are all bad: its place, its length, how far the bytes reach that
 // settled those, and what it says.
@@ -45,12 +45,14 @@ fn first_of(family: u8) -> u8
     mark_of(family)
 }
 
-// True only of bytes that are no good frame of an SPE family: an end that is not a report's, or a code
-// that is not allowed or does not stand twice. The values of a report are not looked at.
+// True only of bytes that are no good frame: of an SPE family an end that is not a report's, or a code that
+// is not allowed or does not stand twice. The values of a report are not looked at, nor a sentence.
 fn ruled_out(family: u8, s: &[u8]) -> bool
-    requires { ⌜ (family ≡ 2 → ⊥) ⌝ }
     ensures { λ r. ⌜ (r ≡ true → isGood (readOne family (now (s .entry))) ≡ false) ⌝ }
 {
+    if family == 2 {
+        return false;
+    }
     if s.len() == 75 {
         return !((s[73] == 0x0D) & (s[74] == 0x0A));
     }
@@ -60,44 +62,22 @@ fn ruled_out(family: u8, s: &[u8]) -> bool
     !is_ack(s)
 }
 
-// How many bytes settle a start whose first byte is right, where it is bad by little: by its marks, its
-// count, or an end or a code that rules it out. 0 where that is not so, or it is the Alpha's.
-fn soon_settled(family: u8, first: u8, s: &[u8]) -> usize
-    requires { ⌜ (first ≡ firstOf family) × (getD (now s) 0 0 ≡ first) ⌝ }
-    ensures { λ r. ⌜ ((r ≡ 0 → ⊥) → SettledBy family (now (s .entry)) r) ⌝ }
-{
-    if family == 2 {
-        return 0;
-    }
-    if s.len() < 4 {
-        return 0;
-    }
-    if s[1] != first {
-        return 2;
-    }
-    if s[2] != first {
-        return 3;
-    }
-    let n = bytes_needed(family, s[3]);
-    if n == 0 {
-        return 4;
-    }
-    if s.len() < n {
-        return 0;
-    }
-    if ruled_out(family, &s[..n]) {
-        return n;
-    }
-    0
+// A start that is not passed over: its place, the size of the frame that may stand there, and how far the
+// bytes reach that settled the starts before it. The size is 0 where the start is undecided, or the bytes end.
+struct Stop {
+    at: usize,
+    size: usize,
+    reach: usize,
 }
 
-// The first start that is not bad.
-pub fn seek(family: u8, s: &[u8]) -> Sought
-    ensures { λ r. ⌜ r ≡ soughtIn family (now (s .entry)) ⌝ }
+// The first start from a place on that is undecided, or of which the reader of one frame has to decide. (Only
+// numbers go in and come back, in which there is nothing to wait for; the frame is read by who asked.)
+fn next_stop(family: u8, s: &[u8], from: usize, far: usize) -> Stop
+    ensures { λ r. ⌜ Stops family (now (s .entry)) from far r ⌝ }
 {
     let first = first_of(family);
-    let mut at = 0;
-    let mut reach = 0;
+    let mut at = from;
+    let mut reach = far;
     while at < s.len() {
         // most starts are bad by their first byte
         if s[at] != first {
@@ -105,50 +85,61 @@ pub fn seek(family: u8, s: &[u8]) -> Sought
             at += 1;
             continue;
         }
-        let soon = soon_settled(family, first, &s[at..]);
-        if soon != 0 {
-            reach = further(reach, at + soon);
-            at += 1;
-            continue;
-        }
         match examine(family, &s[at..]) {
-            Seen::Good(n, f) => {
-                return Sought::Ready(Hit {
-                    start: at,
-                    length: n,
-                    reach,
-                    frame: f,
-                });
+            Seen::Whole(size) => {
+                if !ruled_out(family, &s[at..at + size]) {
+                    return Stop { at, size, reach };
+                }
+                reach = further(reach, at + size);
+                at += 1;
+                continue;
             }
-            Seen::Undecided => return Sought::Waiting(at),
+            Seen::Undecided => return Stop { at, size: 0, reach },
             Seen::Bad(d) => {
                 reach = further(reach, at + d);
             }
         }
         at += 1;
     }
-    Sought::Waiting(at)
+    Stop { at, size: 0, reach }
+}
+
+// The first start that is not bad.
+pub fn seek(family: u8, s: &[u8]) -> Sought
+    ensures { λ r. ⌜ r ≡ soughtIn family (now (s .entry)) ⌝ }
+{
+    let mut stop = next_stop(family, s, 0, 0);
+    while stop.size != 0 {
+        let at = stop.at;
+        let size = stop.size;
+        if let Reading::Good(frame) = read_frame(family, &s[at..at + size]) {
+            return Sought::Ready(Hit {
+                start: at,
+                length: size,
+                reach: stop.reach,
+                frame,
+            });
+        }
+        stop = next_stop(family, s, at + 1, further(stop.reach, at + size));
+    }
+    Sought::Waiting(stop.at)
 }
 
 // The first good frame from a place on, with nothing more to come.
 pub fn first_good(family: u8, s: &[u8], from: usize) -> First
     ensures { λ r. ⌜ r ≡ firstFrom family (now (s .entry)) from ⌝ }
 {
-    let first = first_of(family);
-    let mut at = from;
-    while at < s.len() {
-        if s[at] != first {
-            at += 1;
-            continue;
+    let mut stop = next_stop(family, s, from, 0);
+    while stop.at < s.len() {
+        let at = stop.at;
+        let size = stop.size;
+        // an undecided start is no frame here
+        if size != 0 {
+            if let Reading::Good(frame) = read_frame(family, &s[at..at + size]) {
+                return First::At(at, size, frame);
+            }
         }
-        if soon_settled(family, first, &s[at..]) != 0 {
-            at += 1;
-            continue;
-        }
-        if let Seen::Good(n, f) = examine(family, &s[at..]) {
-            return First::At(at, n, f);
-        }
-        at += 1;
+        stop = next_stop(family, s, at + 1, 0);
     }
     First::Nothing
 }

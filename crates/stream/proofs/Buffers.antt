@@ -39,6 +39,9 @@ joins held piece work room =
     ∙ take-at (held ++ piece) (drop (length (held ++ piece)) work) (length held + length piece) (length-append held piece)
 
 -- the same at the front of the held places
-pub fills-both : (held piece : List ℕ) → length held + length piece ≤ 133 → laid (length held) piece (laid 0 held (zeros 133)) ≡ filled (held ++ piece)
+fills-both : (held piece : List ℕ) → length held + length piece ≤ 133 → laid (length held) piece (laid 0 held (zeros 133)) ≡ filled (held ++ piece)
 fills-both held piece room =
     laid-both held piece (zeros 133) (omega (arith, room, length-zeros 133)) ∙ fills (held ++ piece) (omega (arith, room, length-append held piece))
+
+pub fills-behind : (held piece : List ℕ) → length held + length piece ≤ 133 → laid (length held) piece (filled held) ≡ filled (held ++ piece)
+fills-behind held piece room = ap (laid (length held) piece) (sym (fills held (omega arith))) ∙ fills-both held piece room

@@ -8,26 +8,27 @@ use Rattle.stream_rules.specs.Streams.{wrap, openCall}
 use Rattle.stream_rules.specs.declared.Reader.{Reader}
 use Rattle.stream_rules.specs.declared.Ready.{Ready as HandedOut}
 use Rattle.stream_rules.specs.declared.Answer.the-variants.{Ready as FrameReady, More}
-use Rattle.stream.specs.Turns.{turned, moved, handedOut, fedStep, fedBy}
+use Rattle.stream.specs.Turns.{turned, handedOut, movedStep, movedBy, fedBy}
 use Rattle.stream.specs.declared.pieces.Step.the-variants.{Ready, Waiting}
 use Rattle.stream.specs.declared.pieces.Got.{Got}
-use Rattle.stream.specs.declared.pieces.Turn.{Turn}
+use Rattle.stream.specs.declared.pieces.Next.{Next}
 
 -- A count goes on by a number that has wrapped as by the number itself.
 pub counted-on : (x k low sum : ℕ) → low ≡ k % 2 ^ 32 → sum ≡ (x + low) % 2 ^ 32 → sum ≡ wrap (x + k)
 counted-on x k low sum e d = d ∙ ap (λ (n : ℕ). (x + n) % 2 ^ 32) e ∙ add-mod-mod x k (2 ^ 32)
 
--- The answer of a turn with a frame, from its sum and what is said of the frame, and of one that wants more, from its two sums.
-pub of-ready : (r : Reader) (turn : Turn) (g : Got) → turn .step ≡ Ready g → (at : ℕ) (ready : HandedOut)
-    → at ≡ wrap (r .at + (g .skipped + g .length)) → ready ≡ handedOut (r .at) (r .skipped) g
-    → record { reader = moved r (turn .count) (turn .held) at 0; answer = FrameReady ready } ≡ fedBy r turn
-of-ready r turn g is at ready e d =
-    (λ i. record { reader = moved r (turn .count) (turn .held) (e i) 0; answer = FrameReady (d i) }) ∙ ap (fedStep r (turn .count) (turn .held)) (sym is)
+-- What a turn with a frame leaves, from its sum and what is said of the frame, and one that wants more, from its two sums.
+module _ (at skipped : ℕ) (next : Next) where
+  pub of-ready : (g : Got) → next .step ≡ Ready g → (on : ℕ) (ready : HandedOut)
+      → on ≡ wrap (at + (g .skipped + g .length)) → ready ≡ handedOut at skipped g
+      → record { count = next .count; at = on; skipped = 0; answer = FrameReady ready } ≡ movedBy at skipped next
+  of-ready g is on ready e d =
+      (λ i. record { count = next .count; at = e i; skipped = 0; answer = FrameReady (d i) }) ∙ ap (movedStep at skipped (next .count)) (sym is)
 
-pub of-waiting : (r : Reader) (turn : Turn) (t s : ℕ) → turn .step ≡ Waiting t s → (at skipped : ℕ) → at ≡ wrap (r .at + s) → skipped ≡ wrap (r .skipped + s)
-    → record { reader = moved r (turn .count) (turn .held) at skipped; answer = More t } ≡ fedBy r turn
-of-waiting r turn t s is at skipped e d =
-    (λ i. record { reader = moved r (turn .count) (turn .held) (e i) (d i); answer = More t }) ∙ ap (fedStep r (turn .count) (turn .held)) (sym is)
+  pub of-waiting : (t s : ℕ) → next .step ≡ Waiting t s → (on passed : ℕ) → on ≡ wrap (at + s) → passed ≡ wrap (skipped + s)
+      → record { count = next .count; at = on; skipped = passed; answer = More t } ≡ movedBy at skipped next
+  of-waiting t s is on passed e d =
+      (λ i. record { count = next .count; at = e i; skipped = d i; answer = More t }) ∙ ap (movedStep at skipped (next .count)) (sym is)
 
 -- The answer of the turn of a call is what the rules say of the call.
 pub by-call : (r : Reader) (c : Call) → fedBy r (turned c) ≡ openCall r c

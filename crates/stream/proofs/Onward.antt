@@ -16,9 +16,8 @@ use Rattle.stream_laws.proofs.Calls.{call-wants, wants-first, wants-adds-up}
 use Rattle.seek_laws.proofs.Families.{facts}
 use Rattle.seek_laws.proofs.Calls.{after, piece-gives, piece-wants, piece-keeps}
 use Rattle.stream_laws.proofs.States.{longest-fits}
-use Rattle.stream.specs.Turns.{callOn, turnedFrom, turned}
+use Rattle.stream.specs.Turns.{callOn, Turn, turnedFrom, turned}
 use Rattle.stream.specs.declared.pieces.Step.the-variants.{Ready, Waiting}
-use Rattle.stream.specs.declared.pieces.Turn.{Turn}
 use Rattle.stream.proofs.pieces.Step.{the-type}
 use Rattle.seek_laws.proofs.Jump.{drop-take}
 

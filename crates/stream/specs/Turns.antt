@@ -1,12 +1,12 @@
 -- What a call has done after some pieces of what it was offered, in the words of the rules.
 use Prim.Native.Nat.{ℕ, _+_, _-_, _^_, _≤_, _<_}
 use mathlib.Core.Path.{_≡_}
-use mathlib.Core.List.{List, [], _++_}
+use mathlib.Core.List.{List, _++_}
 use lib.ListN.{length, take, drop, replicate}
 use Rattle.rules.specs.Bytes.{part}
-use Rattle.stream_rules.specs.Heads.{longest, head}
-use Rattle.stream_rules.specs.Rule.{Call, gives, wants, call}
-use Rattle.stream_rules.specs.Streams.{wrap, goOn}
+use Rattle.stream_rules.specs.Heads.{longest, head, atClose}
+use Rattle.stream_rules.specs.Rule.{look, Call, gives, wants, call}
+use Rattle.stream_rules.specs.Streams.{wrap, closedCall}
 use Rattle.stream_rules.specs.declared.Reader.{Reader}
 use Rattle.stream_rules.specs.declared.Answer.the-variants.{Ready as FrameReady, More, Done}
 use Rattle.stream_rules.specs.declared.Ready.{Ready as HandedOut}
@@ -16,7 +16,8 @@ use Rattle.stream.specs.declared.pieces.Step.{Step}
 use Rattle.stream.specs.declared.pieces.Step.the-variants.{Ready, Waiting}
 use Rattle.stream.specs.declared.pieces.Cut.{Cut}
 use Rattle.stream.specs.declared.pieces.Next.{Next}
-use Rattle.stream.specs.declared.pieces.Turn.{Turn}
+use Rattle.stream.specs.declared.Moved.{Moved}
+use Rattle.stream.specs.Places.{readerAt, fedAt}
 
 -- bytes in the held places, with zeros behind them
 abbrev pub filled : List ℕ → List ℕ
@@ -42,6 +43,12 @@ pub record Cuts (family : ℕ) (work : List ℕ) (count t s : ℕ) (c : Cut) : T
   pub within : c .to ≤ length work
   pub short : c .to - c .from < longest family
 
+-- a step, and the places and the count of what is kept
+pub record Turn : Type 0 where
+  pub step : Step
+  pub held : List ℕ
+  pub count : ℕ
+
 abbrev pub turnedFrom : ℕ → ℕ → Call → Turn
 turnedFrom t s c = record { step = stepFrom t s c; held = filled (keptOf c); count = length (keptOf c) }
 
@@ -57,10 +64,7 @@ abbrev pub StepFits : Step → Type 0
 StepFits (Ready g) = g .skipped + g .length < 2 ^ 64
 StepFits (Waiting t s) = Unit
 
--- the reader with these places and counts, what is said of a frame, and the answer of a turn
-abbrev pub moved : Reader → ℕ → List ℕ → ℕ → ℕ → Reader
-moved r count held at skipped = record { family = r .family; closed = r .closed; count = count; held = held; at = at; skipped = skipped }
-
+-- what is said of a frame, and the counts and the answer of a turn
 abbrev pub handedOut : ℕ → ℕ → Got → HandedOut
 handedOut at skipped g = record {
   taken = g .taken;
@@ -70,16 +74,27 @@ handedOut at skipped g = record {
   frame = g .frame;
 }
 
-abbrev pub fedStep : Reader → ℕ → List ℕ → Step → Fed
-fedStep r count held (Ready g) = record {
-  reader = moved r count held (wrap (r .at + (g .skipped + g .length))) 0;
-  answer = FrameReady (handedOut (r .at) (r .skipped) g);
+abbrev pub movedStep : ℕ → ℕ → ℕ → Step → Moved
+movedStep at skipped count (Ready g) = record {
+  count = count;
+  at = wrap (at + (g .skipped + g .length));
+  skipped = 0;
+  answer = FrameReady (handedOut at skipped g);
 }
-fedStep r count held (Waiting t s) = record { reader = moved r count held (wrap (r .at + s)) (wrap (r .skipped + s)); answer = More t }
+movedStep at skipped count (Waiting t s) = record { count = count; at = wrap (at + s); skipped = wrap (skipped + s); answer = More t }
 
+abbrev pub movedBy : ℕ → ℕ → Next → Moved
+movedBy at skipped n = movedStep at skipped (n .count) (n .step)
+
+-- done, with these bytes dropped
+abbrev pub doneBy : ℕ → ℕ → ℕ → Moved
+doneBy at skipped dropped = record { count = 0; at = wrap (at + dropped); skipped = wrap (skipped + dropped); answer = Done 0 }
+
+-- a turn of a reader, as what a call gives back
 abbrev pub fedBy : Reader → Turn → Fed
-fedBy r turn = fedStep r (turn .count) (turn .held) (turn .step)
+fedBy r turn = fedAt (r .family) (r .closed) (turn .held) (movedStep (r .at) (r .skipped) (turn .count) (turn .step))
 
--- done, with these bytes skipped
-abbrev pub doneWith : Reader → ℕ → Fed
-doneWith r skipped = goOn r skipped [] (Done 0)
+-- the parts of a closed reader are drained, whatever its flag
+abbrev pub Drains : ℕ → List ℕ → ℕ → ℕ → ℕ → List ℕ → Moved → Type 0
+Drains family held count at skipped left m =
+    (closed : ℕ) → fedAt family closed left m ≡ closedCall (readerAt family closed count held at skipped) (look (atClose (head family)) (take count held))

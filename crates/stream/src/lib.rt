@@ -1,15 +1,16 @@
 // The stream reader: a fresh one, a call that feeds it, and closing. A reader goes in by value and
-// comes back by value; on a refusal it comes back as it was.
+// comes back by value, or in its parts with the held places lent; on a refusal it is as it was.
 mod pieces;
 
 use leaves::is_family;
 use leaves::text;
 use pieces::Got;
+use pieces::Next;
 use pieces::Step;
-use pieces::Turn;
+use pieces::advance;
 use pieces::keep;
 use pieces::longest_frame;
-use pieces::run;
+use pieces::size;
 use seek::First;
 use seek::first_good;
 use std::num::wrapping_add_u32;
@@ -20,11 +21,22 @@ use stream_rules::Reader;
 use stream_rules::Ready;
 use stream_rules::Turned;
 ghost use mathlib.Core.Path.{_≡_};
+ghost use mathlib.Core.List.{[]};
 ghost use Prim.Native.Nat.{_%_, _^_, _≤_, _<_};
-ghost use Rattle.stream_rules.specs.Heads.{longest, head, atClose};
-ghost use Rattle.stream_rules.specs.Rule.{look};
-ghost use Rattle.stream_rules.specs.Streams.{heldOf, closedCall, Feeds, Shuts, Makes};
-ghost use Rattle.stream.specs.Turns.{StepFits, handedOut, fedBy, doneWith};
+ghost use lib.ListN.{length};
+ghost use Rattle.stream_rules.specs.Heads.{longest};
+ghost use Rattle.stream_rules.specs.Streams.{holding, Feeds, Shuts, Makes};
+ghost use Rattle.stream_rules.specs.declared.Answer.the-variants.{Refused};
+ghost use Rattle.stream.specs.Places.{FeedsPlaces};
+ghost use Rattle.stream.specs.Turns.{StepFits, handedOut, movedBy, doneBy, Drains};
+
+// What a call leaves of a reader beside its held places, and what it answered.
+pub struct Moved {
+    pub count: u8,
+    pub at: u32,
+    pub skipped: u32,
+    pub answer: Answer,
+}
 
 // The number modulo 2^32.
 fn low(n: usize) -> u32
@@ -47,78 +59,56 @@ fn handed_out(at: u32, skipped: u32, got: Got) -> Ready
     }
 }
 
-// The answer of a turn, and the reader after it. Both counts advance by wrapping adds.
-fn answered(r: Reader, turn: Turn) -> Fed
-    requires { ⌜ (turn .count ≤ 133) × StepFits (turn .step) ⌝ }
-    ensures { λ f. ⌜ f ≡ fedBy r turn ⌝ }
+// The counts and the answer of a turn. Both counts advance by wrapping adds.
+fn answered(at: u32, skipped: u32, next: Next) -> Moved
+    requires { ⌜ (next .count ≤ 133) × StepFits (next .step) ⌝ }
+    ensures { λ m. ⌜ m ≡ movedBy at skipped next ⌝ }
 {
-    let held = turn.held;
-    let step = turn.step;
-    let count = turn.count as u8;
+    let step = next.step;
+    let count = next.count as u8;
     match step {
         Step::Ready(got) => {
-            let ready = handed_out(r.at, r.skipped, got);
-            let reader = Reader {
-                family: r.family,
-                closed: r.closed,
+            let ready = handed_out(at, skipped, got);
+            Moved {
                 count,
-                held,
-                at: wrapping_add_u32(r.at, low(got.skipped + got.length)),
+                at: wrapping_add_u32(at, low(got.skipped + got.length)),
                 skipped: 0, // counted again from here
-            };
-            Fed {
-                reader,
                 answer: Answer::Ready(ready),
             }
         }
-        Step::Waiting(taken, skipped) => {
-            let reader = Reader {
-                family: r.family,
-                closed: r.closed,
-                count,
-                held,
-                at: wrapping_add_u32(r.at, low(skipped)),
-                skipped: wrapping_add_u32(r.skipped, low(skipped)),
-            };
-            Fed {
-                reader,
-                answer: Answer::More(taken),
-            }
-        }
+        Step::Waiting(taken, passed) => Moved {
+            count,
+            at: wrapping_add_u32(at, low(passed)),
+            skipped: wrapping_add_u32(skipped, low(passed)),
+            answer: Answer::More(taken),
+        },
     }
 }
 
-// A reader that is done: it keeps nothing, and what it drops is skipped.
-fn done(r: Reader, skipped: usize) -> Fed
-    ensures { λ f. ⌜ f ≡ doneWith r skipped ⌝ }
+// A reader that is done keeps nothing, and what it drops is skipped.
+fn done(at: u32, skipped: u32, dropped: usize) -> Moved
+    ensures { λ m. ⌜ m ≡ doneBy at skipped dropped ⌝ }
 {
-    let held = [0u8; 133];
-    let reader = Reader {
-        family: r.family,
-        closed: r.closed,
+    Moved {
         count: 0,
-        held,
-        at: wrapping_add_u32(r.at, low(skipped)),
-        skipped: wrapping_add_u32(r.skipped, low(skipped)),
-    };
-    Fed {
-        reader,
+        at: wrapping_add_u32(at, low(dropped)),
+        skipped: wrapping_add_u32(skipped, low(dropped)),
         answer: Answer::Done(0),
     }
 }
 
 // A call on a closed reader: the next frame of what it holds, or done.
-fn drain(r: Reader) -> Fed
-    requires { ⌜ r .count < longest (r .family) ⌝ }
-    ensures { λ f. ⌜ f ≡ closedCall r (look (atClose (head (r .family))) (heldOf r)) ⌝ }
+fn drain(family: u8, held: &mut [u8; 133], count: usize, at: u32, skipped: u32) -> Moved
+    requires { ⌜ (count < longest family) × (length (now held) ≡ 133) ⌝ }
+    ensures { λ m. ⌜ Drains family (now (held .entry)) count at skipped (now (held .exit)) m ⌝ }
 {
-    let held = r.held;
-    let bytes = text(&held, 0, r.count as usize);
-    match first_good(r.family, bytes, 0) {
+    let bytes = text(held, 0, count);
+    match first_good(family, bytes, 0) {
         First::At(start, length, frame) => {
             let behind = start + length;
             let left = bytes.len() - behind;
             let kept = keep(bytes, behind, left);
+            *held = kept;
             let got = Got {
                 taken: 0,
                 skipped: start,
@@ -126,46 +116,91 @@ fn drain(r: Reader) -> Fed
                 frame,
             };
             answered(
-                r,
-                Turn {
+                at,
+                skipped,
+                Next {
                     step: Step::Ready(got),
-                    held: kept,
                     count: left,
                 },
             )
         }
-        First::Nothing => done(r, bytes.len()),
+        First::Nothing => {
+            *held = [0u8; 133];
+            done(at, skipped, count)
+        }
     }
 }
 
-// A call that offers bytes: a frame, or more wanted, or done; refusal 1, then 6, then 5.
+// A refusal leaves the counts as they were.
+fn refused(count: u8, at: u32, skipped: u32, number: u8) -> Moved
+    ensures { λ m. ⌜ m ≡ record { count = count; at = at; skipped = skipped; answer = Refused number } ⌝ }
+{
+    Moved {
+        count,
+        at,
+        skipped,
+        answer: Answer::Refused(number),
+    }
+}
+
+// A call that offers bytes to a reader that comes in its parts: a frame, or more wanted, or done; refusal 1,
+// then 6, then 5. The held places are lent and altered where they stand: a reader that goes by value is
+// copied, and a copy waits for the bytes just written.
+pub fn feed_places(
+    family: u8,
+    closed: u8,
+    count: u8,
+    at: u32,
+    skipped: u32,
+    held: &mut [u8; 133],
+    offered: &[u8],
+) -> Moved
+    ensures { λ m. ⌜ FeedsPlaces family closed count (now (held .entry)) at skipped (now (offered .entry)) (now (held .exit)) m ⌝ }
+{
+    // never: it tells the proof how many places the type has
+    if size(held) != 133 {
+        return refused(count, at, skipped, 6);
+    }
+    if !is_family(family) {
+        return refused(count, at, skipped, 1);
+    }
+    let used = count as usize;
+    if longest_frame(family) <= used {
+        return refused(count, at, skipped, 6);
+    }
+    if closed == 0 {
+        return answered(at, skipped, advance(family, held, used, offered));
+    }
+    if offered.len() != 0 {
+        return refused(count, at, skipped, 5);
+    }
+    drain(family, held, used, at, skipped)
+}
+
+// The same by value: the reader goes in and comes back.
 pub fn feed(r: Reader, offered: &[u8]) -> Fed
     ensures { λ f. ⌜ Feeds r (now (offered .entry)) f ⌝ }
 {
-    if !is_family(r.family) {
-        return Fed {
-            reader: r,
-            answer: Answer::Refused(1),
-        };
-    }
-    let count = r.count as usize;
-    if longest_frame(r.family) <= count {
-        return Fed {
-            reader: r,
-            answer: Answer::Refused(6),
-        };
-    }
-    if r.closed == 0 {
-        let held = r.held;
-        return answered(r, run(r.family, text(&held, 0, count), offered));
-    }
-    if offered.len() != 0 {
-        return Fed {
-            reader: r,
-            answer: Answer::Refused(5),
-        };
-    }
-    drain(r)
+    let mut held = r.held;
+    let moved = feed_places(
+        r.family,
+        r.closed,
+        r.count,
+        r.at,
+        r.skipped,
+        &mut held,
+        offered,
+    );
+    let answer = moved.answer;
+    let reader = Reader {
+        family: r.family,
+        closed: r.closed,
+        count: moved.count,
+        held,
+        at: moved.at,
+        skipped: moved.skipped,
+    };
+    Fed { reader, answer }
 }
 
 // Closes a reader; refusal 1, then 6. Closing it again changes nothing more.
@@ -201,33 +236,33 @@ pub fn close(r: Reader) -> Turned
     }
 }
 
-// A fresh reader of a family, or refusal 1 and a reader that every call refuses.
-pub fn fresh_reader(family: u8) -> Turned
-    ensures { λ t. ⌜ Makes family t ⌝ }
+// An open reader that holds nothing, at the front of its stream.
+fn empty(family: u8) -> Reader
+    ensures { λ r. ⌜ r ≡ holding family 0 [] 0 0 ⌝ }
 {
     let held = [0u8; 133];
-    if !is_family(family) {
-        let none = Reader {
-            family: 0,
-            closed: 0,
-            count: 0,
-            held,
-            at: 0,
-            skipped: 0,
-        };
-        return Turned {
-            reader: none,
-            outcome: Outcome::Refused(1),
-        };
-    }
-    let reader = Reader {
+    Reader {
         family,
         closed: 0,
         count: 0,
         held,
         at: 0,
         skipped: 0,
-    };
+    }
+}
+
+// A fresh reader of a family, or refusal 1 and a reader that every call refuses.
+pub fn fresh_reader(family: u8) -> Turned
+    ensures { λ t. ⌜ Makes family t ⌝ }
+{
+    if !is_family(family) {
+        let none = empty(0);
+        return Turned {
+            reader: none,
+            outcome: Outcome::Refused(1),
+        };
+    }
+    let reader = empty(family);
     Turned {
         reader,
         outcome: Outcome::Accepted,

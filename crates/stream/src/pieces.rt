@@ -1,5 +1,5 @@
-// A call on all that is offered. Its bytes are searched where they stand, as a whole; only what is held
-// is joined first, in a buffer, with the next bytes offered.
+// A call on all that is offered, which alters the held places where they stand. The bytes offered are searched
+// where they stand too, as a whole; only what is held is joined first, in a buffer, with the next of them.
 use leaves::further;
 use leaves::text;
 use pens::put_bytes;
@@ -7,9 +7,8 @@ use rules::Frame;
 use seek::Sought;
 use seek::seek;
 ghost use mathlib.Core.Path.{_≡_};
-ghost use mathlib.Core.List.{[]};
 ghost use Prim.Native.Nat.{_+_, _-_, _^_, _≤_, _<_};
-ghost use lib.ListN.{length};
+ghost use lib.ListN.{length, take};
 ghost use Rattle.rules.specs.Bytes.{part};
 ghost use Rattle.stream_rules.specs.Heads.{longest, head};
 ghost use Rattle.stream_rules.specs.Rule.{call};
@@ -36,16 +35,9 @@ pub struct Cut {
     pub to: usize,
 }
 
-// A step, and how many bytes are kept, in lent places.
+// A step, and how many bytes are kept, in the held places.
 pub struct Next {
     pub step: Step,
-    pub count: usize,
-}
-
-// A step, and the bytes that are kept.
-pub struct Turn {
-    pub step: Step,
-    pub held: [u8; 133],
     pub count: usize,
 }
 
@@ -60,6 +52,13 @@ pub(crate) fn longest_frame(family: u8) -> usize
         return 134;
     }
     6
+}
+
+// How many bytes there are.
+pub(crate) fn size(s: &[u8]) -> usize
+    ensures { λ r. ⌜ r ≡ length (now (s .entry)) ⌝ }
+{
+    s.len()
 }
 
 // Some bytes of a slice in the held places, with zeros behind them.
@@ -103,7 +102,19 @@ fn search(family: u8, work: &[u8], count: usize, taken: usize, skipped: usize) -
     }
 }
 
-// What such a call says and how many bytes it keeps, which are laid into lent places of zeros. (Lent,
+// Zeros in the held places from one of them on.
+fn clear_from(places: &mut [u8; 133], from: usize)
+    requires { ⌜ (from ≤ 133) × (length (now places) ≡ 133) ⌝ }
+    ensures { λ _. ⌜ now (places .exit) ≡ filled (take from (now (places .entry))) ⌝ }
+{
+    let mut i = from;
+    while i < 133 {
+        places[i] = 0;
+        i += 1;
+    }
+}
+
+// What such a call says and how many bytes it keeps, which are laid into the places. (The places are lent,
 // because an array that a function gives back is copied by each function above it.)
 fn turn_of(
     family: u8,
@@ -111,67 +122,67 @@ fn turn_of(
     count: usize,
     taken: usize,
     skipped: usize,
-    kept: &mut [u8; 133],
+    places: &mut [u8; 133],
 ) -> Next
     requires { ⌜ (count ≤ length (now work)) × (count < longest family) ⌝ }
     requires { ⌜ (taken + length (now work) < 2 ^ 64) × (skipped + length (now work) < 2 ^ 64) ⌝ }
-    requires { ⌜ now kept ≡ filled [] ⌝ }
-    ensures { λ r. ⌜ turnWith r (now (kept .exit)) ≡ turnedFrom taken skipped (callOn family (now (work .entry)) count) ⌝ }
+    ensures { λ r. ⌜ turnWith r (now (places .exit)) ≡ turnedFrom taken skipped (callOn family (now (work .entry)) count) ⌝ }
 {
     let c = search(family, work, count, taken, skipped);
     let step = c.step;
     let left = c.to - c.from;
-    put_bytes(kept, 0, text(work, c.from, left));
+    *places = [0u8; 133];
+    put_bytes(places, 0, text(work, c.from, left));
     Next { step, count: left }
 }
 
 // A call on a piece, which stands with the held bytes in a buffer.
-fn take_piece(family: u8, held: &[u8], piece: &[u8], kept: &mut [u8; 133]) -> Next
-    requires { ⌜ (length (now held) < longest family) × (length (now held) ≤ 133) × (length (now piece) ≤ 133) ⌝ }
-    requires { ⌜ now kept ≡ filled [] ⌝ }
-    ensures { λ r. ⌜ turnWith r (now (kept .exit)) ≡ turned (call (head family) (now (held .entry)) (now (piece .entry))) ⌝ }
+fn take_piece(family: u8, held: &mut [u8; 133], count: usize, piece: &[u8]) -> Next
+    requires { ⌜ (count < longest family) × (count ≤ 133) × (length (now piece) ≤ 133) ⌝ }
+    requires { ⌜ length (now held) ≡ 133 ⌝ }
+    ensures { λ r. ⌜ turnWith r (now (held .exit)) ≡ turned (call (head family) (take count (now (held .entry))) (now (piece .entry))) ⌝ }
 {
     let mut work = [0u8; 266];
-    put_bytes(&mut work, 0, held);
-    put_bytes(&mut work, held.len(), piece);
-    let bytes = text(&work, 0, held.len() + piece.len());
-    turn_of(family, bytes, held.len(), 0, 0, kept)
+    put_bytes(&mut work, 0, text(held, 0, count));
+    put_bytes(&mut work, count, piece);
+    let bytes = text(&work, 0, count + piece.len());
+    turn_of(family, bytes, count, 0, 0, held)
 }
 
-// A call on few bytes, for which the lent places have room behind the held ones. They stay as they
-// stand there while nothing is decided.
-fn take_few(family: u8, held: &[u8], few: &[u8], kept: &mut [u8; 133]) -> Next
-    requires { ⌜ (length (now held) < longest family) × (length (now held) + length (now few) ≤ 133) ⌝ }
-    requires { ⌜ now kept ≡ filled [] ⌝ }
-    ensures { λ r. ⌜ turnWith r (now (kept .exit)) ≡ turned (call (head family) (now (held .entry)) (now (few .entry))) ⌝ }
+// A call on few bytes, for which the places have room behind the held ones. They stay as they stand there
+// while nothing is decided.
+fn take_few(family: u8, held: &mut [u8; 133], count: usize, few: &[u8]) -> Next
+    requires { ⌜ (count < longest family) × (count + length (now few) ≤ 133) ⌝ }
+    requires { ⌜ length (now held) ≡ 133 ⌝ }
+    ensures { λ r. ⌜ turnWith r (now (held .exit)) ≡ turned (call (head family) (take count (now (held .entry))) (now (few .entry))) ⌝ }
 {
-    put_bytes(kept, 0, held);
-    put_bytes(kept, held.len(), few);
-    let all = held.len() + few.len();
-    let c = search(family, text(kept, 0, all), held.len(), 0, 0);
+    clear_from(held, count);
+    put_bytes(held, count, few);
+    let all = count + few.len();
+    let c = search(family, text(held, 0, all), count, 0, 0);
     let step = c.step;
-    let count = c.to - c.from;
-    if count != all {
-        let places = *kept;
-        *kept = keep(text(&places, 0, all), c.from, count);
+    let left = c.to - c.from;
+    if left != all {
+        let kept = keep(text(held, 0, all), c.from, left);
+        *held = kept;
     }
-    Next { step, count }
+    Next { step, count: left }
 }
 
 // A call on all that is offered. Where a whole piece with the held bytes leaves no frame, what is kept
 // is no longer than the piece, so it is the piece's last bytes, and the call goes on from there.
-fn advance(family: u8, held: &[u8], offered: &[u8], kept: &mut [u8; 133]) -> Next
-    requires { ⌜ (length (now held) < longest family) × (length (now held) ≤ 133) ⌝ }
-    requires { ⌜ now kept ≡ filled [] ⌝ }
-    ensures { λ r. ⌜ turnWith r (now (kept .exit)) ≡ turned (call (head family) (now (held .entry)) (now (offered .entry))) ⌝ }
+pub(crate) fn advance(family: u8, held: &mut [u8; 133], count: usize, offered: &[u8]) -> Next
+    requires { ⌜ (count < longest family) × (count ≤ 133) ⌝ }
+    requires { ⌜ length (now held) ≡ 133 ⌝ }
+    ensures { λ r. ⌜ turnWith r (now (held .exit)) ≡ turned (call (head family) (take count (now (held .entry))) (now (offered .entry))) ⌝ }
 {
-    if held.len() == 0 {
-        return turn_of(family, offered, 0, 0, 0, kept);
+    if count == 0 {
+        return turn_of(family, offered, 0, 0, 0, held);
     }
-    if offered.len() <= 133 - held.len() {
-        return take_few(family, held, offered, kept);
+    if offered.len() <= 133 - count {
+        return take_few(family, held, count, offered);
     }
-    let next = take_piece(family, held, text(offered, 0, 133), kept);
+    let next = take_piece(family, held, count, text(offered, 0, 133));
     if offered.len() <= 133 {
         return next;
     }
@@ -179,23 +190,7 @@ fn advance(family: u8, held: &[u8], offered: &[u8], kept: &mut [u8; 133]) -> Nex
     let Step::Waiting(taken, skipped) = step else {
         return next;
     };
-    let count = next.count;
-    let from = 133 - count;
-    *kept = [0u8; 133];
-    turn_of(family, &offered[from..], count, taken, skipped, kept)
-}
-
-// The same, with the places that it fills.
-pub(crate) fn run(family: u8, held: &[u8], offered: &[u8]) -> Turn
-    requires { ⌜ (length (now held) < longest family) × (length (now held) ≤ 133) ⌝ }
-    ensures { λ r. ⌜ r ≡ turned (call (head family) (now (held .entry)) (now (offered .entry))) ⌝ }
-{
-    let mut kept = [0u8; 133];
-    let next = advance(family, held, offered, &mut kept);
-    let step = next.step;
-    Turn {
-        step,
-        held: kept,
-        count: next.count,
-    }
+    let kept = next.count;
+    let from = 133 - kept;
+    turn_of(family, &offered[from..], kept, taken, skipped, held)
 }

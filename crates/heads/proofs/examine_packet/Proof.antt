@@ -4,7 +4,7 @@ use mathlib.Core.Path.{sym, _∙_}
 use native.Mathlib.Omega.{arith}
 use borrow.Author.Needs.{needs as kit}
 use Rattle.head_laws.proofs.PacketStarts.{Marks, no-marks, one-more, no-mark, no-count, bytes-missing, all-there}
-use Rattle.heads.proofs.Starts.{undecided, bad-start, by-whole, few}
+use Rattle.heads.proofs.Starts.{undecided, by-whole, few, counted, bad-packet}
 use Rattle.heads.proofs.examine_packet.Statement.{statement}
 use Rattle.heads.proofs.examine_packet.Tie as tie
 
@@ -42,7 +42,7 @@ returns-2 c =
     let start = c .before .before .before .before .before in
     let family = start .args .family in
     let bytes = start .args .s .now in
-    bad-start family bytes 1 (no-mark family (start .pre) bytes 0 (omega arith) (omega arith) (no-marks family bytes) (λ e. c .if2 .taken (e ∙ sym (c .before .before .before .mark-of .ensures))))
+    bad-packet family (start .pre) bytes 1 (omega arith) (omega arith) (no-mark family (start .pre) bytes 0 (omega arith) (omega arith) (no-marks family bytes) (λ e. c .if2 .taken (e ∙ sym (c .before .before .before .mark-of .ensures))))
 
 returns-3 : tie.Need-returns-3
 returns-3 c =
@@ -59,7 +59,7 @@ returns-4 c =
     let start = c .before .before .before .before .before .before .before .before in
     let family = start .args .family in
     let bytes = start .args .s .now in
-    bad-start family bytes 2 (no-mark family (start .pre) bytes 1 (omega arith) (omega arith) (one (c .before .before .before)) (λ e. c .if4 .taken (e ∙ sym (c .before .before .before .before .before .before .mark-of .ensures))))
+    bad-packet family (start .pre) bytes 2 (omega arith) (omega arith) (no-mark family (start .pre) bytes 1 (omega arith) (omega arith) (one (c .before .before .before)) (λ e. c .if4 .taken (e ∙ sym (c .before .before .before .before .before .before .mark-of .ensures))))
 
 returns-5 : tie.Need-returns-5
 returns-5 c =
@@ -76,7 +76,7 @@ returns-6 c =
     let start = c .before .before .before .before .before .before .before .before .before .before .before in
     let family = start .args .family in
     let bytes = start .args .s .now in
-    bad-start family bytes 3 (no-mark family (start .pre) bytes 2 (omega arith) (omega arith) (two (c .before .before .before)) (λ e. c .if6 .taken (e ∙ sym (c .before .before .before .before .before .before .before .before .before .mark-of .ensures))))
+    bad-packet family (start .pre) bytes 3 (omega arith) (omega arith) (no-mark family (start .pre) bytes 2 (omega arith) (omega arith) (two (c .before .before .before)) (λ e. c .if6 .taken (e ∙ sym (c .before .before .before .before .before .before .before .before .before .mark-of .ensures))))
 
 returns-7 : tie.Need-returns-7
 returns-7 c =
@@ -96,7 +96,7 @@ returns-8 c =
     let start = c .before .before .before .before .before .before .before .before .before .before .before .before .before .before .before in
     let family = start .args .family in
     let bytes = start .args .s .now in
-    bad-start family bytes 4 (no-count family (start .pre) bytes (omega arith) (three (c .before .before .before .before)) (sym (c .before .bytes-needed .ensures) ∙ c .if8 .taken))
+    bad-packet family (start .pre) bytes 4 (omega arith) (omega arith) (no-count family (start .pre) bytes (omega arith) (three (c .before .before .before .before)) (sym (c .before .bytes-needed .ensures) ∙ c .if8 .taken))
 
 returns-9 : tie.Need-returns-9
 returns-9 c =
@@ -105,16 +105,14 @@ returns-9 c =
     let bytes = start .args .s .now in
     undecided family bytes (bytes-missing family (start .pre) bytes (omega arith) (three (c .before .before .before .before .before)) _ (sym (c .before .before .bytes-needed .ensures)) (c .if9 .taken))
 
-whole-requires : tie.Need-whole-requires
-whole-requires c κs = search kit
-
 returns-10 : tie.Need-returns-10
 returns-10 c =
-    let start = c .before .before .before .before .before .before .before .before .before .before .before .before .before .before .before .before .before in
+    let start = c .before .before .before .before .before .before .before .before .before .before .before .before .before .before .before .before in
     let family = start .args .family in
     let bytes = start .args .s .now in
-    c .whole .ensures
-    ∙ by-whole family bytes _ (all-there family (start .pre) bytes (omega arith) (three (c .before .before .before .before .before .before)) _ (sym (c .before .before .before .bytes-needed .ensures)) (omega arith) (omega arith))
+    let needed = sym (c .before .before .bytes-needed .ensures) in
+    by-whole family bytes _ (all-there family (start .pre) bytes (omega arith) (three (c .before .before .before .before .before)) _ needed (omega arith) (omega arith))
+    (counted family (start .pre) bytes ∙ needed)
 
 pub examine-packet-spec : {M : Type 1} → statement M
 examine-packet-spec =
@@ -135,5 +133,4 @@ examine-packet-spec =
     bytes-needed-requires
     returns-8
     returns-9
-    whole-requires
     returns-10)

@@ -1,7 +1,7 @@
 -- `heads::examine_sentence` meets its contract: its tests go along the rules for a start of a sentence. A count that stops
 -- at 129 tells as much of the payload bytes as the rules ask.
 -- Assumes nothing.
-use Prim.Native.Nat.{ℕ, min}
+use Prim.Native.Nat.{ℕ, _+_, min}
 use mathlib.Core.Path.{_≡_, ap, _∙_}
 use mathlib.Core.List.{List}
 use native.Mathlib.Omega.{arith}
@@ -37,7 +37,7 @@ shared-slice-read-if2 c = search needs
 returns-2 : tie.Need-returns-2
 returns-2 c =
     let bytes = c .before .before .before .before .args .s .now in
-    bad-start 2 bytes 1 (no-dollar bytes (omega arith) (c .if2 .taken))
+    bad-start 2 bytes 1 (no-dollar bytes (omega arith) (c .if2 .taken)) (λ same. omega (arith, same))
 
 sub-payload-bytes : tie.Need-sub-payload-bytes
 sub-payload-bytes c = search needs
@@ -54,7 +54,7 @@ payload-bytes-requires c κs = search needs
 returns-3 : tie.Need-returns-3
 returns-3 c =
     let bytes = c .before .before .before .before .before .before .before .args .s .now in
-    bad-start 2 bytes 130 (too-long bytes (c .before .before .before .if2 .left) (omega (arith, counted (c .before))))
+    bad-start 2 bytes 130 (too-long bytes (c .before .before .before .if2 .left) (omega (arith, counted (c .before)))) (λ same. omega (arith, same, counted (c .before)))
 
 add-if4 : tie.Need-add-if4
 add-if4 c = search needs
@@ -76,7 +76,7 @@ add-t12 c = search needs
 returns-5 : tie.Need-returns-5
 returns-5 c =
     let bytes = c .before .before .before .before .before .before .before .before .before .before .args .s .now in
-    bad-start 2 bytes _ (no-star bytes (c .before .before .before .before .before .before .if2 .left) _ (exact (c .before .before .before)) (omega arith) (omega arith) (c .if5 .taken))
+    bad-start 2 bytes _ (no-star bytes (c .before .before .before .before .before .before .if2 .left) _ (exact (c .before .before .before)) (omega arith) (omega arith) (c .if5 .taken)) (λ same. omega (arith, same, exact (c .before .before .before)))
 
 add-if6 : tie.Need-add-if6
 add-if6 c = search needs
@@ -86,16 +86,15 @@ returns-6 c =
     let bytes = c .before .before .before .before .before .before .before .before .before .before .before .args .s .now in
     undecided 2 bytes (digits-missing bytes (c .before .before .before .before .before .before .before .if2 .left) _ (exact (c .before .before .before .before)) (omega arith) (c .before .if5 .left) (c .if6 .taken))
 
-add-whole : tie.Need-add-whole
-add-whole c = search needs
-
-whole-requires : tie.Need-whole-requires
-whole-requires c κs = search needs
+add-t10 : tie.Need-add-t10
+add-t10 c = search needs
 
 returns-7 : tie.Need-returns-7
 returns-7 c =
-    let bytes = c .before .before .before .before .before .before .before .before .before .before .before .before .args .s .now in
-    c .whole .ensures ∙ by-whole 2 bytes _ (all-there bytes (c .before .before .before .before .before .before .before .before .if2 .left) _ (exact (c .before .before .before .before .before)) (omega arith) (c .before .before .if5 .left) (omega arith))
+    let bytes = c .before .before .before .before .before .before .before .before .before .before .before .args .s .now in
+    let is-run = exact (c .before .before .before .before) in
+    by-whole 2 bytes _ (all-there bytes (c .before .before .before .before .before .before .before .if2 .left) _ is-run (omega arith) (c .before .if5 .left) (omega arith))
+    (ap (λ (n : ℕ). n + 6) is-run)
 
 pub examine-sentence-spec : {M : Type 1} → statement M
 examine-sentence-spec =
@@ -117,6 +116,5 @@ examine-sentence-spec =
     returns-5
     add-if6
     returns-6
-    add-whole
-    whole-requires
+    add-t10
     returns-7)

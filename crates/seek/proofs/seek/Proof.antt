@@ -1,28 +1,25 @@
--- `seek::seek` meets its contract. The loop's invariant: every start before `at` is bad, and `reach` is how far the bytes
--- reach that settled those. The measure is what is left of the bytes.
+-- `seek::seek` meets its contract. The loop's invariant: the walk from the first start on has come to the stop. The measure is
+-- what is left of the bytes.
 -- Assumes nothing.
-use Prim.Native.Nat.{ℕ, max, _+_, _-_, _≤_}
-use mathlib.Core.Path.{_≡_, refl, sym, ap, subst⁻¹, _∙_}
+use Prim.Native.Nat.{ℕ, max, _+_, _-_, _≤_, _<_}
+use mathlib.Core.Path.{_≡_, refl, sym, ap, subst, _∙_}
 use mathlib.Core.List.{List}
-use native.Mathlib.Numerals.{add-one}
+use native.Mathlib.Decide.{decLt}
 use native.Mathlib.Omega.{arith}
-use borrow.Author.Count.{below-none, below-more}
 use borrow.Author.Needs.{needs}
-use lib.ListN.{length, drop, length-drop}
+use lib.ListN.{length, take, drop}
+use Rattle.rules.specs.Answers.{readOne}
 use Rattle.rules.specs.declared.Frame.{Frame}
-use Rattle.stream_rules.specs.Heads.{wait, bad, good, head}
+use Rattle.stream_rules.specs.Heads.{bad, good, headOf, head}
 use Rattle.stream_rules.specs.Rule.{Look, byLook}
 use Rattle.stream_rules.specs.Settled.{reach}
-use Rattle.head_laws.proofs.Heads.{settling}
-use Rattle.head_laws.proofs.Lists.{whole-rest}
 use Rattle.seek_laws.proofs.Families.{facts}
 use Rattle.seek_laws.proofs.Starts.{BadBefore, look-at-good, look-at-wait, look-at-end}
-use Rattle.heads.specs.Seen.{seen}
-use Rattle.heads.proofs.Starts.{seen-good, seen-bad, seen-undecided}
-use Rattle.seek.specs.Sought.{soughtIn, SettledBy}
-use Rattle.seek.proofs.Firsts.{other-first, part-first, part-settled}
+use Rattle.seek.specs.Sought.{soughtIn, Stops}
+use Rattle.seek.proofs.Stopping.{part-there, goes-on, followed, whole-there, refused-whole}
 use Rattle.seek.specs.declared.Sought.{Sought}
 use Rattle.seek.specs.declared.Sought.the-variants.{Ready, Waiting}
+use Rattle.seek.specs.declared.Stop.{Stop}
 use Rattle.seek.proofs.seek.Statement.{statement}
 use Rattle.seek.proofs.seek.Tie as tie
 
@@ -31,190 +28,124 @@ abbrev answer : ℕ → List ℕ → Look → Sought
 answer family s l =
     byLook l (λ k n f behind. Ready (record { start = k; length = n; reach = reach family k s; frame = f })) (λ k rest. Waiting k)
 
-module _ (family : ℕ) (s : List ℕ) (at : ℕ) (before : BadBefore (head family) s at) where
-  stops-at-good : (far n : ℕ) (f : Frame) → far ≡ reach family at s → head family (drop at s) ≡ good n f
-      → Ready (record { start = at; length = n; reach = far; frame = f }) ≡ soughtIn family s
+module _ (family : ℕ) (s : List ℕ) (p : Stop) (stops : Stops family s 0 0 p) where
+  -- the starts before the stop are bad, and what settled them is counted
+  before : BadBefore (head family) s (p .at)
+  before j low = stops .walks .passes j (omega arith) low
+
+  counted : p .reach ≡ reach family (p .at) s
+  unfolding reach
+  counted = stops .walks .reaches refl
+
+  within : p .at ≤ length s
+  within = stops .walks .within (omega arith)
+
+  ready : (f : Frame) → head family (drop (p .at) s) ≡ good (p .size) f
+      → Ready (record { start = p .at; length = p .size; reach = p .reach; frame = f }) ≡ soughtIn family s
   unfolding soughtIn
-  stops-at-good far n f e here =
-      ap (λ (r : ℕ). Ready (record { start = at; length = n; reach = r; frame = f })) e
-      ∙ ap (answer family s) (sym (look-at-good (facts family) s at n f before here))
+  ready f here =
+      ap (λ (r : ℕ). Ready (record { start = p .at; length = p .size; reach = r; frame = f })) counted
+      ∙ ap (answer family s) (sym (look-at-good (facts family) s (p .at) (p .size) f before here))
 
-  stops-at-wait : at ≤ length s → head family (drop at s) ≡ wait → Waiting at ≡ soughtIn family s
+  -- an undecided start, or the end
+  waiting : p .size ≡ 0 → Waiting (p .at) ≡ soughtIn family s
   unfolding soughtIn
-  stops-at-wait there here = ap (answer family s) (sym (look-at-wait (head family) s at there before here))
+  waiting none =
+      elim (decLt (p .at) (length s)) [
+        | yes there ↦ ap (answer family s) (sym (look-at-wait (head family) s (p .at) within before (stops .found .waits none there)))
+        | no end ↦
+            let at-end : p .at ≡ length s = omega (arith, within) in
+            ap Waiting at-end ∙ ap (answer family s) (sym (look-at-end (head family) s (subst (λ (n : ℕ). BadBefore (head family) s n) at-end before)))
+      ]
 
-  ends : at ≡ length s → Waiting at ≡ soughtIn family s
-  unfolding soughtIn
-  ends e =
-      ap Waiting e ∙ ap (answer family s) (sym (look-at-end (head family) s (subst⁻¹ (λ (n : ℕ). BadBefore (head family) s n) (sym e) before)))
-
-  -- a bad start at `at` is settled by bytes that are there
-  settles : (d : ℕ) → SettledBy family (drop at s) d → d ≤ length s - at
-  settles d h =
-      let there = settling family (drop at s) (λ e. let z : _≡_ {A = ℕ} 0 1 = cc (h .0) in omega arith) .there in
-      omega (arith, there, h .1, length-drop at s)
-
--- behind a bad start that d bytes settled, the walk knows one start more
-next : (family : ℕ) (s : List ℕ) (at far on d : ℕ) → at + 1 ≤ length s → BadBefore (head family) s at → far ≡ reach family at s
-    → SettledBy family (drop at s) d → on ≡ max far (at + d)
-    → (at + 1 ≤ length s) × (BadBefore (head family) s (at + 1) × (on ≡ reach family (at + 1) s))
-unfolding reach
-next family s at far on d there before e is-bad to = (
-  there,
-  (
-    below-more (λ (j : ℕ). head family (drop j s) ≡ bad) at before (is-bad .0),
-    to ∙ (λ i. max (e i) (at + sym (is-bad .1) i)) ∙ ap (λ (k : ℕ). reach family k s) (sym (add-one at)),
-  ),
-)
+  -- bytes that are refused: the walk goes on behind the stop
+  onward : (p .size ≡ 0 → ⊥) → headOf (p .size) (readOne family (take (p .size) (drop (p .at) s))) ≡ bad → (far : ℕ) → far ≡ max (p .reach) (p .at + p .size)
+      → (q : Stop) → Stops family s (p .at + 1) far q → Stops family s 0 0 q
+  onward some refused far to q next =
+      let whole = stops .found .whole some in
+      let there = whole-there family s (p .at) (p .size) whole in
+      record {
+        walks = followed family s 0 0 (p .at + 1) far (q .at) (q .reach)
+            (goes-on family s 0 0 (p .at) (p .reach) far (p .size) (stops .walks) (omega (arith, there .0, there .1)) (refused-whole family s (p .at) (p .size) whole refused) to)
+            (next .walks);
+        found = next .found;
+      }
 
 abbrev Inv-loop : tie.InvT-loop
-Inv-loop family s first at₀ far₀ at far = (at ≤ length s) × (BadBefore (head family) s at × (far ≡ reach family at s))
+Inv-loop family s stop₀ stop = Stops family s 0 0 stop
 
 abbrev μ-loop : tie.MeasureT-loop
-μ-loop family s first at₀ far₀ at far = length s - at
+μ-loop family s stop₀ stop = length s - stop .at
 
--- what was soon settled at `at`
-soon : (c : tie.After-soon-settled Inv-loop μ-loop) → (c .soon-settled .result ≡ 0 → ⊥) → SettledBy (c .before .before .before .before .before .before .before .before .args .family) (drop (c .before .before .before .before .before .loop .at) (c .before .before .before .before .before .before .before .before .args .s .now)) (c .soon-settled .result)
-soon c some =
-    let a = c .before .before .before .before .before .before .before .before .args in
-    part-settled (a .family) (a .s .now) (c .before .before .before .before .before .loop .at) _ (c .soon-settled .ensures some)
+-- the frame's bytes are there
+there : (c : tie.Then1 Inv-loop μ-loop) → (0 < c .before .before .loop .stop .size) × (c .before .before .loop .stop .size ≤ length (c .before .before .before .before .before .args .s .now) - c .before .before .loop .stop .at)
+there c = whole-there (c .before .before .before .before .before .args .family) (c .before .before .before .before .before .args .s .now) (c .before .before .loop .stop .at) (c .before .before .loop .stop .size) (c .before .before .loop .inv .found .whole (c .if1 .taken))
 
--- what was seen there
-here : (c : tie.After-examine Inv-loop μ-loop) → c .examine .result ≡ seen (c .before .before .before .before .before .before .before .before .before .before .before .args .family) (drop (c .before .before .before .before .before .before .before .before .loop .at) (c .before .before .before .before .before .before .before .before .before .before .before .args .s .now))
-here c = c .examine .ensures ∙ ap (seen _) (whole-rest (c .before .before .before .before .before .before .before .before .before .before .before .args .s .now) (c .before .before .before .before .before .before .before .before .loop .at))
+-- what was read there
+was-read : (c : tie.After-read-frame Inv-loop μ-loop) → c .read-frame .result ≡ readOne (c .before .before .before .before .before .before .before .args .family) (take (c .before .before .before .before .loop .stop .size) (drop (c .before .before .before .before .loop .stop .at) (c .before .before .before .before .before .before .before .args .s .now)))
+was-read c =
+    let a = c .before .before .before .before .before .before .before .args in
+    c .read-frame .ensures .answers ∙ ap (readOne (a .family)) (part-there (a .family) (a .s .now) (c .before .before .before .before .loop .stop .at) (c .before .before .before .before .loop .stop .size))
 
-first-of-requires : tie.Need-first-of-requires Inv-loop μ-loop
-first-of-requires c κs = search needs
+next-stop-requires : tie.Need-next-stop-requires Inv-loop μ-loop
+next-stop-requires c κs = search needs
 
 loop-holds : tie.Need-loop-holds Inv-loop μ-loop
-unfolding reach
-loop-holds c =
-    let a = c .before .before .args in
-    (omega arith, (below-none (λ (j : ℕ). head (a .family) (drop j (a .s .now)) ≡ bad), refl))
+loop-holds c = c .next-stop .ensures
 
-shared-slice-read-if1 : tie.Need-shared-slice-read-if1 Inv-loop μ-loop
-shared-slice-read-if1 c = omega arith
+add-read-frame : tie.Need-add-read-frame Inv-loop μ-loop
+add-read-frame c = omega (arith, there c)
 
-add-further : tie.Need-add-further Inv-loop μ-loop
-add-further c = omega arith
+sub-read-frame : tie.Need-sub-read-frame Inv-loop μ-loop
+sub-read-frame c = omega arith
 
-further-requires : tie.Need-further-requires Inv-loop μ-loop
-further-requires c κs = search needs
+part-read-frame-start : tie.Need-part-read-frame-start Inv-loop μ-loop
+part-read-frame-start c = omega arith
 
-add-at : tie.Need-add-at Inv-loop μ-loop
-add-at c = omega arith
+part-read-frame-end : tie.Need-part-read-frame-end Inv-loop μ-loop
+part-read-frame-end c = omega (arith, there c)
 
-loop-less : tie.Need-loop-less Inv-loop μ-loop
-loop-less c = omega arith
+read-frame-requires : tie.Need-read-frame-requires Inv-loop μ-loop
+read-frame-requires c κs = search needs
 
-loop-again : tie.Need-loop-again Inv-loop μ-loop
-loop-again c =
-    let loop = c .before .before .before .before .loop in
-    let a = c .before .before .before .before .before .before .before .args in
-    let s = a .s .now in
-    let is-bad = other-first (a .family) s (loop .at) _ (omega arith) (c .before .before .before .before .before .first-of .ensures) (c .before .if1 .taken) in
-    next (a .family) s (loop .at) _ _ 1 (omega arith) (loop .inv .1 .0) (loop .inv .1 .1) is-bad (c .further .ensures)
-
-sub-soon-settled : tie.Need-sub-soon-settled Inv-loop μ-loop
-sub-soon-settled c = omega arith
-
-part-soon-settled-start : tie.Need-part-soon-settled-start Inv-loop μ-loop
-part-soon-settled-start c = omega arith
-
-part-soon-settled-end : tie.Need-part-soon-settled-end Inv-loop μ-loop
-part-soon-settled-end c = omega arith
-
-soon-settled-requires : tie.Need-soon-settled-requires Inv-loop μ-loop
-soon-settled-requires c κs = (
-  c .before .before .before .before .before .first-of .ensures,
-  part-first (c .before .before .before .before .before .before .before .args .s .now) (c .before .before .before .before .loop .at) ∙ c .before .if1 .left,
-)
-
-add-further-2 : tie.Need-add-further-2 Inv-loop μ-loop
-add-further-2 c =
-    let loop = c .before .before .before .before .before .before .loop in
-    let a = c .before .before .before .before .before .before .before .before .before .args in
-    omega (arith, settles (a .family) (a .s .now) (loop .at) (loop .inv .1 .0) _ (soon (c .before) (c .if2 .taken)))
-
-further-requires-2 : tie.Need-further-requires-2 Inv-loop μ-loop
-further-requires-2 c κs = search needs
-
-add-at-2 : tie.Need-add-at-2 Inv-loop μ-loop
-add-at-2 c = omega arith
-
-loop-less-2 : tie.Need-loop-less-2 Inv-loop μ-loop
-loop-less-2 c = omega arith
-
-loop-again-2 : tie.Need-loop-again-2 Inv-loop μ-loop
-loop-again-2 c =
-    let loop = c .before .before .before .before .before .before .before .loop in
-    let a = c .before .before .before .before .before .before .before .before .before .before .args in
-    next (a .family) (a .s .now) (loop .at) _ _ _ (omega arith) (loop .inv .1 .0) (loop .inv .1 .1) (soon (c .before .before) (c .before .if2 .taken)) (c .further2 .ensures)
-
-sub-examine : tie.Need-sub-examine Inv-loop μ-loop
-sub-examine c = omega arith
-
-part-examine-start : tie.Need-part-examine-start Inv-loop μ-loop
-part-examine-start c = omega arith
-
-part-examine-end : tie.Need-part-examine-end Inv-loop μ-loop
-part-examine-end c = omega arith
-
-examine-requires : tie.Need-examine-requires Inv-loop μ-loop
-examine-requires c κs = search needs
-
-enum-known-n : tie.Need-enum-known-n Inv-loop μ-loop
-enum-known-n c = search needs
+enum-known-frame : tie.Need-enum-known-frame Inv-loop μ-loop
+enum-known-frame c = search needs
 
 returns : tie.Need-returns Inv-loop μ-loop
 returns c =
-    let loop = c .before .before .before .before .before .before .before .before .before .before .before .loop in
-    let a = c .before .before .before .before .before .before .before .before .before .before .before .before .before .before .args in
-    stops-at-good (a .family) (a .s .now) (loop .at) (loop .inv .1 .0) _ _ _ (loop .inv .1 .1)
-    (seen-good (a .family) (drop (loop .at) (a .s .now)) _ _ (sym (here (c .before .before .before)) ∙ c .before .n .given .1))
+    let loop = c .before .before .before .before .before .before .before .loop in
+    let a = c .before .before .before .before .before .before .before .before .before .before .args in
+    ready (a .family) (a .s .now) (loop .stop) (loop .inv) _
+    (loop .inv .found .whole (c .before .before .before .before .before .if1 .taken) .0 ∙ ap (headOf (loop .stop .size)) (sym (was-read (c .before .before .before)) ∙ c .before .frame .given .1))
 
 enum-told : tie.Need-enum-told Inv-loop μ-loop
 enum-told c = search needs
 
+add-next-stop : tie.Need-add-next-stop Inv-loop μ-loop
+add-next-stop c = omega (arith, there (c .before .before .before .before))
+
+add-further : tie.Need-add-further Inv-loop μ-loop
+add-further c = omega (arith, there (c .before .before .before .before))
+
+further-requires : tie.Need-further-requires Inv-loop μ-loop
+further-requires c κs = search needs
+
+next-stop-requires-2 : tie.Need-next-stop-requires-2 Inv-loop μ-loop
+next-stop-requires-2 c κs = search needs
+
+loop-less : tie.Need-loop-less Inv-loop μ-loop
+loop-less c = omega (arith, there (c .before .before .before .before .before .before), c .next-stop2 .ensures .walks .ahead)
+
+loop-again : tie.Need-loop-again Inv-loop μ-loop
+loop-again c =
+    let loop = c .before .before .before .before .before .before .before .before .loop in
+    let a = c .before .before .before .before .before .before .before .before .before .before .before .args in
+    onward (a .family) (a .s .now) (loop .stop) (loop .inv) (c .before .before .before .before .before .before .if1 .taken)
+    (ap (headOf (loop .stop .size)) (sym (was-read (c .before .before .before .before)) ∙ c .before .before .enum-told .given .1))
+    _ (c .before .further .ensures) _ (c .next-stop2 .ensures)
+
 returns-2 : tie.Need-returns-2 Inv-loop μ-loop
-returns-2 c =
-    let loop = c .before .before .before .before .before .before .before .before .before .before .loop in
-    let a = c .before .before .before .before .before .before .before .before .before .before .before .before .before .args in
-    stops-at-wait (a .family) (a .s .now) (loop .at) (loop .inv .1 .0) (loop .inv .0)
-    (seen-undecided (a .family) (drop (loop .at) (a .s .now)) (sym (here (c .before .before)) ∙ c .enum-told .given .1))
-
-enum-known-d : tie.Need-enum-known-d Inv-loop μ-loop
-enum-known-d c = search needs
-
-add-further-3 : tie.Need-add-further-3 Inv-loop μ-loop
-add-further-3 c =
-    let loop = c .before .before .before .before .before .before .before .before .before .before .before .loop in
-    let a = c .before .before .before .before .before .before .before .before .before .before .before .before .before .before .args in
-    let is-bad = seen-bad (a .family) (drop (loop .at) (a .s .now)) _ (sym (here (c .before .before .before)) ∙ c .before .d .given .1) in
-    omega (arith, settles (a .family) (a .s .now) (loop .at) (loop .inv .1 .0) (c .before .d .given .0 .0) is-bad)
-
-further-requires-3 : tie.Need-further-requires-3 Inv-loop μ-loop
-further-requires-3 c κs = search needs
-
-add-at-3 : tie.Need-add-at-3 Inv-loop μ-loop
-add-at-3 c = omega arith
-
-loop-less-3 : tie.Need-loop-less-3 Inv-loop μ-loop
-loop-less-3 c = omega arith
-
-loop-again-3 : tie.Need-loop-again-3 Inv-loop μ-loop
-loop-again-3 c =
-    let loop = c .before .before .before .before .before .before .before .before .before .before .before .before .loop in
-    let a = c .before .before .before .before .before .before .before .before .before .before .before .before .before .before .before .args in
-    let s = a .s .now in
-    let is-bad = seen-bad (a .family) (drop (loop .at) s) _ (sym (here (c .before .before .before .before)) ∙ c .before .before .d .given .1) in
-    next (a .family) s (loop .at) _ _ _ (omega arith) (loop .inv .1 .0) (loop .inv .1 .1) is-bad (c .further3 .ensures)
-
-returns-3 : tie.Need-returns-3 Inv-loop μ-loop
-returns-3 c =
-    let loop = c .before .loop in
-    let a = c .before .before .before .before .args in
-    ends (a .family) (a .s .now) (loop .at) (loop .inv .1 .0) (omega arith)
+returns-2 c = waiting (c .before .before .before .before .before .args .family) (c .before .before .before .before .before .args .s .now) (c .before .before .loop .stop) (c .before .before .loop .inv) (c .if1 .left)
 
 pub seek-spec : {M : Type 1} → statement M
 seek-spec =
@@ -222,35 +153,20 @@ seek-spec =
     (tie.spec
     Inv-loop
     μ-loop
-    first-of-requires
+    next-stop-requires
     loop-holds
-    shared-slice-read-if1
-    add-further
-    further-requires
-    add-at
-    loop-less
-    loop-again
-    sub-soon-settled
-    part-soon-settled-start
-    part-soon-settled-end
-    soon-settled-requires
-    add-further-2
-    further-requires-2
-    add-at-2
-    loop-less-2
-    loop-again-2
-    sub-examine
-    part-examine-start
-    part-examine-end
-    examine-requires
-    enum-known-n
+    add-read-frame
+    sub-read-frame
+    part-read-frame-start
+    part-read-frame-end
+    read-frame-requires
+    enum-known-frame
     returns
     enum-told
-    returns-2
-    enum-known-d
-    add-further-3
-    further-requires-3
-    add-at-3
-    loop-less-3
-    loop-again-3
-    returns-3)
+    add-next-stop
+    add-further
+    further-requires
+    next-stop-requires-2
+    loop-less
+    loop-again
+    returns-2)

@@ -1,4 +1,4 @@
--- `stream::answered` meets its contract: the counts of each arm go on by wrapping adds, so the answer is that of the turn.
+-- `stream::answered` meets its contract: the counts of each arm go on by wrapping adds, so what is left is that of the turn.
 -- Assumes nothing.
 use borrow.Author.Needs.{needs}
 use native.Mathlib.Omega.{arith}
@@ -21,7 +21,7 @@ handed-out-requires c κs = search needs
 add-low : tie.Need-add-low
 add-low c =
     let step = c .before .before .before .step in
-    let fits = subst StepFits (step .given .1) (c .before .before .before .before .before .before .before .pre .1) in
+    let fits = subst StepFits (step .given .1) (c .before .before .before .before .before .before .pre .1) in
     omega (arith, fits)
 
 low-requires : tie.Need-low-requires
@@ -47,21 +47,21 @@ wrapping-add-u32-requires-3 c κs = search needs
 
 returns : tie.Need-returns
 returns c =
-    let a = c .before .before .before .before .before .before .before .before .before .args in
+    let a = c .before .before .before .before .before .before .before .before .args in
     let step = c .before .before .before .before .before .step in
     let got = step .given .0 .0 in
-    of-ready (a .r) (a .turn) got (step .given .1) _ _
-    (counted-on (a .r .at) (got .skipped + got .length) _ _ (c .before .low .ensures) (c .wrapping-add-u32 .ensures))
+    of-ready (a .at) (a .skipped) (a .next) got (step .given .1) _ _
+    (counted-on (a .at) (got .skipped + got .length) _ _ (c .before .low .ensures) (c .wrapping-add-u32 .ensures))
     (c .before .before .before .handed-out .ensures)
 
 returns-2 : tie.Need-returns-2
 returns-2 c =
-    let a = c .before .before .before .before .before .before .before .before .before .args in
+    let a = c .before .before .before .before .before .before .before .before .args in
     let step = c .before .before .before .before .before .step2 in
-    let skipped = step .given .0 .1 .0 in
-    of-waiting (a .r) (a .turn) (step .given .0 .0) skipped (step .given .1) _ _
-    (counted-on (a .r .at) skipped _ _ (c .before .before .before .low2 .ensures) (c .before .before .wrapping-add-u322 .ensures))
-    (counted-on (a .r .skipped) skipped _ _ (c .before .low3 .ensures) (c .wrapping-add-u323 .ensures))
+    let passed = step .given .0 .1 .0 in
+    of-waiting (a .at) (a .skipped) (a .next) (step .given .0 .0) passed (step .given .1) _ _
+    (counted-on (a .at) passed _ _ (c .before .before .before .low2 .ensures) (c .before .before .wrapping-add-u322 .ensures))
+    (counted-on (a .skipped) passed _ _ (c .before .low3 .ensures) (c .wrapping-add-u323 .ensures))
 
 pub answered-spec : {M : Type 1} → statement M
 answered-spec =

@@ -1,9 +1,7 @@
 -- `stream::done` meets its contract: nothing is kept, and both counts go on by what was skipped.
 -- Assumes nothing.
 use borrow.Author.Needs.{needs}
-use lib.ListN.{replicate}
 use Rattle.stream_rules.specs.declared.Answer.the-variants.{Done}
-use Rattle.stream.specs.Turns.{moved}
 use Rattle.stream.proofs.Counts.{counted-on}
 use Rattle.stream.proofs.done.Statement.{statement}
 use Rattle.stream.proofs.done.Tie as tie
@@ -23,9 +21,9 @@ wrapping-add-u32-requires-2 c κs = search needs
 returns : tie.Need-returns
 returns c =
     let a = c .before .before .before .before .args in
-    let at = counted-on (a .r .at) (a .skipped) _ _ (c .before .before .before .low .ensures) (c .before .before .wrapping-add-u32 .ensures) in
-    let skipped = counted-on (a .r .skipped) (a .skipped) _ _ (c .before .low2 .ensures) (c .wrapping-add-u322 .ensures) in
-    λ i. record { reader = moved (a .r) 0 (replicate 133 0) (at i) (skipped i); answer = Done 0 }
+    let at = counted-on (a .at) (a .dropped) _ _ (c .before .before .before .low .ensures) (c .before .before .wrapping-add-u32 .ensures) in
+    let skipped = counted-on (a .skipped) (a .dropped) _ _ (c .before .low2 .ensures) (c .wrapping-add-u322 .ensures) in
+    λ i. record { count = 0; at = at i; skipped = skipped i; answer = Done 0 }
 
 pub done-spec : {M : Type 1} → statement M
 done-spec =

@@ -1,5 +1,5 @@
--- `stream::pieces::take_few` meets its contract: the held bytes and the few stand in the lent places, so the turn of them is
--- that of the call on the few.
+-- `stream::pieces::take_few` meets its contract: the held bytes and the few stand in the places, so the turn of them is that of the
+-- call on the few.
 -- Assumes nothing.
 use Prim.Native.Nat.{ℕ, _+_, _-_}
 use mathlib.Core.Path.{_≡_, sym, ap, _∙_}
@@ -7,44 +7,68 @@ use mathlib.Core.List.{List, _++_}
 use native.Mathlib.Omega.{arith}
 use borrow.Author.Needs.{needs}
 use lib.ListN.{length, take, replicate, length-append}
-use lib.Seq.{take-at}
+use lib.Seq.{take-at, length-take-le}
 use Rattle.rules.specs.Bytes.{part}
 use Rattle.pens.specs.Pens.{laid}
 use Rattle.stream_rules.specs.Heads.{head}
 use Rattle.stream_rules.specs.Rule.{call}
 use Rattle.stream_laws.proofs.States.{longest-fits}
-use Rattle.stream.specs.Turns.{filled, turned}
-use Rattle.stream.proofs.Buffers.{fills-both}
+use Rattle.stream.specs.Turns.{filled, callOn, turned}
+use Rattle.stream.proofs.Buffers.{fills-behind}
 use Rattle.stream.proofs.Cutting.{turns, cut-whole}
 use Rattle.stream.proofs.Onward.{call-same}
 use Rattle.stream.proofs.pieces.take_few.Statement.{statement}
 use Rattle.stream.proofs.pieces.take_few.Tie as tie
 
--- the lent places, and the bytes at their front
+-- the places, and the bytes at their front
 module _ (c : tie.After-text) where
-  places-are : c .before .before .before .put-bytes2 .last .0 ≡ filled (c .before .before .before .before .before .before .before .before .before .args .held .now ++ c .before .before .before .before .before .before .before .before .before .args .few .now)
-  places-are =
-      let a = c .before .before .before .before .before .before .before .before .before .args in
-      c .before .before .before .put-bytes2 .ensures
-      ∙ ap (laid (length (a .held .now)) (a .few .now)) (c .before .before .before .before .before .put-bytes .ensures ∙ ap (laid 0 (a .held .now)) (c .before .before .before .before .before .before .before .before .before .pre .1))
-      ∙ fills-both (a .held .now) (a .few .now) (c .before .before .before .before .before .before .before .before .before .pre .0 .1)
+  abbrev held : List ℕ
+  held = take (c .before .before .before .before .before .before .before .before .args .count) (c .before .before .before .before .before .before .before .before .args .held .now)
 
-  bytes-are : c .text .result .now ≡ c .before .before .before .before .before .before .before .before .before .args .held .now ++ c .before .before .before .before .before .before .before .before .before .args .few .now
+  abbrev few : List ℕ
+  few = c .before .before .before .before .before .before .before .before .args .few .now
+
+  size : length held ≡ c .before .before .before .before .before .before .before .before .args .count
+  size = length-take-le (c .before .before .before .before .before .before .before .before .args .count) (c .before .before .before .before .before .before .before .before .args .held .now) (omega (arith, c .before .before .before .before .before .before .before .before .pre .0 .1, c .before .before .before .before .before .before .before .before .pre .1))
+
+  places-are : c .before .before .before .put-bytes .last .0 ≡ filled (held ++ few)
+  places-are =
+      c .before .before .before .put-bytes .ensures
+      ∙ ap (laid (c .before .before .before .before .before .before .before .before .args .count) few) (c .before .before .before .before .before .clear-from .ensures)
+      ∙ ap (λ (n : ℕ). laid n few (filled held)) (sym size)
+      ∙ fills-behind held few (omega (arith, size, c .before .before .before .before .before .before .before .before .pre .0 .1))
+
+  bytes-are : c .text .result .now ≡ held ++ few
   bytes-are =
-      let a = c .before .before .before .before .before .before .before .before .before .args in
-      let all = length (a .held .now) + length (a .few .now) in
+      let all = c .before .before .before .before .before .before .before .before .args .count + length few in
       c .text .ensures .content
       ∙ ap (take all) places-are
-      ∙ take-at (a .held .now ++ a .few .now) (replicate (133 - length (a .held .now ++ a .few .now)) 0) all (length-append (a .held .now) (a .few .now))
+      ∙ take-at (held ++ few) (replicate (133 - length (held ++ few)) 0) all (length-append held few ∙ ap (λ (n : ℕ). n + length few) size)
 
-  bytes-length : length (c .text .result .now) ≡ length (c .before .before .before .before .before .before .before .before .before .args .held .now) + length (c .before .before .before .before .before .before .before .before .before .args .few .now)
-  bytes-length = ap length bytes-are ∙ length-append (c .before .before .before .before .before .before .before .before .before .args .held .now) (c .before .before .before .before .before .before .before .before .before .args .few .now)
+  bytes-length : length (c .text .result .now) ≡ c .before .before .before .before .before .before .before .before .args .count + length few
+  bytes-length = ap length bytes-are ∙ length-append held few ∙ ap (λ (n : ℕ). n + length few) size
+
+-- the same bytes are kept from
+again : (c : tie.After-text2) → c .text2 .result .now ≡ c .before .before .before .before .before .before .text .result .now
+again c = c .text2 .ensures .content ∙ sym (c .before .before .before .before .before .before .text .ensures .content)
+
+-- what was cut is the turn of the call
+of-call : (c : tie.After-search) (kept : List ℕ)
+    → kept ≡ filled (part (c .search .result .from) (c .search .result .to - c .search .result .from) (c .before .text .result .now))
+    → record { step = c .search .result .step; held = kept; count = c .search .result .to - c .search .result .from }
+    ≡ turned (call (head (c .before .before .before .before .before .before .before .before .before .args .family)) (take (c .before .before .before .before .before .before .before .before .before .args .count) (c .before .before .before .before .before .before .before .before .before .args .held .now)) (c .before .before .before .before .before .before .before .before .before .args .few .now))
+of-call c kept e =
+    let a = c .before .before .before .before .before .before .before .before .before .args in
+    let bytes = c .before .text .result .now in
+    turns (a .family) bytes (a .count) 0 0 (c .search .result) kept (c .search .ensures) e
+    ∙ ap (λ (n : ℕ). turned (callOn (a .family) bytes n)) (sym (size (c .before)))
+    ∙ ap turned (call-same (a .family) (take (a .count) (a .held .now)) (a .few .now) bytes (bytes-are (c .before)))
+
+clear-from-requires : tie.Need-clear-from-requires
+clear-from-requires c κs = search needs
 
 put-bytes-requires : tie.Need-put-bytes-requires
 put-bytes-requires c κs = search needs
-
-put-bytes-requires-2 : tie.Need-put-bytes-requires-2
-put-bytes-requires-2 c κs = search needs
 
 add-all : tie.Need-add-all
 add-all c = search needs
@@ -54,40 +78,22 @@ text-requires c κs = search needs
 
 search-requires : tie.Need-search-requires
 search-requires c κs =
-    let pre = c .before .before .before .before .before .before .before .before .before .pre in
+    let pre = c .before .before .before .before .before .before .before .before .pre in
     let size = bytes-length c in
     ((omega (arith, size), pre .0 .0), (omega (arith, size, pre .0 .1), omega (arith, size, pre .0 .1)))
 
-sub-count : tie.Need-sub-count
-sub-count c = search needs
-
-slice-aggregate-text : tie.Need-slice-aggregate-text
-slice-aggregate-text c = search needs
+sub-left : tie.Need-sub-left
+sub-left c = search needs
 
 text-requires-2 : tie.Need-text-requires-2
 text-requires-2 c κs = search needs
-
--- the copy has the same bytes at its front
-again : (c : tie.After-text2) → c .text2 .result .now ≡ c .before .before .before .before .before .before .text .result .now
-again c = c .text2 .ensures .content ∙ sym (c .before .before .before .before .before .before .text .ensures .content)
 
 keep-requires : tie.Need-keep-requires
 keep-requires c κs =
     let cuts = c .before .before .before .before .before .search .ensures in (
       omega (arith, cuts .order, cuts .within, ap length (again c)),
-      omega (arith, cuts .short, longest-fits (c .before .before .before .before .before .before .before .before .before .before .before .before .before .before .before .args .family)),
+      omega (arith, cuts .short, longest-fits (c .before .before .before .before .before .before .before .before .before .before .before .before .before .before .args .family)),
     )
-
--- what was cut is the turn of the call
-of-call : (c : tie.After-search) (kept : List ℕ)
-    → kept ≡ filled (part (c .search .result .from) (c .search .result .to - c .search .result .from) (c .before .text .result .now))
-    → record { step = c .search .result .step; held = kept; count = c .search .result .to - c .search .result .from }
-    ≡ turned (call (head (c .before .before .before .before .before .before .before .before .before .before .args .family)) (c .before .before .before .before .before .before .before .before .before .before .args .held .now) (c .before .before .before .before .before .before .before .before .before .before .args .few .now))
-of-call c kept e =
-    let a = c .before .before .before .before .before .before .before .before .before .before .args in
-    let bytes = c .before .text .result .now in
-    turns (a .family) bytes (length (a .held .now)) 0 0 (c .search .result) kept (c .search .ensures) e
-    ∙ ap turned (call-same (a .family) (a .held .now) (a .few .now) bytes (bytes-are (c .before)))
 
 returns : tie.Need-returns
 returns c =
@@ -106,13 +112,12 @@ pub take-few-spec : {M : Type 1} → statement M
 take-few-spec =
     tie.close
     (tie.spec
+    clear-from-requires
     put-bytes-requires
-    put-bytes-requires-2
     add-all
     text-requires
     search-requires
-    sub-count
-    slice-aggregate-text
+    sub-left
     text-requires-2
     keep-requires
     returns

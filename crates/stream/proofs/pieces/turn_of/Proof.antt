@@ -1,14 +1,15 @@
 -- `stream::pieces::turn_of` meets its contract: what was cut is what the call says and keeps.
 -- Assumes nothing.
-use Prim.Native.Nat.{_-_}
-use mathlib.Core.Path.{_∙_}
+use Prim.Native.Nat.{ℕ, _-_}
+use mathlib.Core.Path.{ap, _∙_}
+use mathlib.Core.List.{List}
 use native.Mathlib.Omega.{arith}
 use borrow.Author.Needs.{needs}
 use lib.ListN.{drop, length-take}
 use Rattle.rules.specs.Bytes.{part}
 use Rattle.pens.specs.Pens.{laid}
 use Rattle.stream_laws.proofs.States.{longest-fits}
-use Rattle.stream.proofs.Buffers.{fills}
+use Rattle.stream.proofs.Buffers.{zeros, fills}
 use Rattle.stream.proofs.Cutting.{turns}
 use Rattle.stream.proofs.pieces.turn_of.Statement.{statement}
 use Rattle.stream.proofs.pieces.turn_of.Tie as tie
@@ -27,14 +28,14 @@ put-bytes-requires c κs = search needs
 
 returns : tie.Need-returns
 returns c =
-    let start = c .before .before .before .before .before .before in
+    let start = c .before .before .before .before .before .before .before in
     let a = start .args in
-    let cut = c .before .before .before .before .search .result in
-    let cuts = c .before .before .before .before .search .ensures in
+    let cut = c .before .before .before .before .before .search .result in
+    let cuts = c .before .before .before .before .before .search .ensures in
     let bytes = part (cut .from) (cut .to - cut .from) (a .work .now) in
     turns (a .family) (a .work .now) (a .count) (a .taken) (a .skipped) cut _ cuts
     (c .put-bytes .ensures
-    ∙ (λ i. laid 0 (c .before .text .ensures .content i) (start .pre .1 .1 i))
+    ∙ ap (λ (l : List ℕ). laid 0 l (zeros 133)) (c .before .text .ensures .content)
     ∙ fills bytes (omega (arith, length-take (cut .to - cut .from) (drop (cut .from) (a .work .now)), cuts .short, longest-fits (a .family))))
 
 pub turn-of-spec : {M : Type 1} → statement M

@@ -1,0 +1,67 @@
+-- What a call and the row of its answer say of the reader that is left: where the row was laid, the one that the call gives back, and
+-- else the one that it was made on. A row that has no room is longer than the lent numbers, and no row is longer than 26.
+-- Assumes nothing.
+use Prim.Native.Nat.{ℕ, _≤_}
+use mathlib.Core.Path.{_≡_, refl, sym, ap, subst, _∙_}
+use mathlib.Core.Bool.{cond}
+use mathlib.Core.List.{List}
+use native.Mathlib.Omega.{arith}
+use borrow.Author.Tests.{eq-eqb, ne-eqb, le-leb}
+use lib.Dec.{eqb, lit≤}
+use lib.IntN.{ℤ}
+use lib.ListN.{length}
+use Rattle.rules.specs.Sentences.{numbers02, numbers03}
+use Rattle.rules.specs.declared.Frame.{Frame}
+use Rattle.rules.specs.declared.Frame.the-variants.{Ack, Status, Command, Apa02, Apa03, Apa05, Other}
+use Rattle.stream_rules.specs.Streams.{saidToFeed, Feeds}
+use Rattle.stream_rules.specs.declared.Reader.{Reader}
+use Rattle.stream_rules.specs.declared.Fed.{Fed}
+use Rattle.stream_rules.specs.declared.Answer.{Answer}
+use Rattle.stream_rules.specs.declared.Answer.the-variants.{Ready, More, Done, Refused}
+use Rattle.stream_laws.specs.Sessions.{isNoRefusal}
+use Rattle.stream_laws.proofs.States.{refused-as-before}
+use Rattle.rows.specs.Rows.{row, rowFed, rowNumber, Lays}
+use Rattle.fed_rows.specs.FedRows.{FeedsRow}
+
+-- the longest row is that of a status report
+row-fits : (taken start skipped size : ℕ) (f : Frame) → length (row taken start skipped size f) ≤ 26
+unfolding numbers02 numbers03
+row-fits taken start skipped size (Ack c) = lit≤ tt
+row-fits taken start skipped size (Status s) = lit≤ tt
+row-fits taken start skipped size (Command c) = lit≤ tt
+row-fits taken start skipped size (Apa02 r) = lit≤ tt
+row-fits taken start skipped size (Apa03 r) = lit≤ tt
+row-fits taken start skipped size (Apa05 r) = lit≤ tt
+row-fits taken start skipped size (Other n) = lit≤ tt
+
+-- with so many numbers lent, only a refusal has another number than 0
+room : (r numbers : List ℤ) → length r ≤ 26 → 26 ≤ length numbers → rowNumber r numbers ≡ 0
+room r numbers short long = rw (le-leb (length r) (length numbers) (omega (arith, short, long)))
+
+module _ (reader : Reader) (offered : List ℕ) (numbers : List ℤ) (f : Fed) (result : ℕ) (left : List ℤ) (feeds : Feeds reader offered f) (lays : Lays (saidToFeed (f .answer)) (rowFed (f .answer)) numbers result left) where
+  row-of : (after : Reader) → after ≡ cond (eqb result 0) (f .reader) reader → FeedsRow reader offered numbers result after left
+  row-of after e = record {
+    lays = subst (λ (g : Fed). Lays (saidToFeed (g .answer)) (rowFed (g .answer)) numbers result left) (feeds .answers) lays;
+    leaves = e ∙ ap (λ (g : Fed). cond (eqb result 0) (g .reader) reader) (feeds .answers);
+  }
+
+  -- the row was laid
+  pub laid : result ≡ 0 → FeedsRow reader offered numbers result (f .reader) left
+  laid zero = row-of (f .reader) (rw (eq-eqb result 0 zero))
+
+  -- it was not, and the reader is as it was
+  pub not-laid : (result ≡ 0 → ⊥) → (after : Reader) → after ≡ reader → FeedsRow reader offered numbers result after left
+  not-laid some after e = row-of after (e ∙ rw (ne-eqb result 0 some))
+
+  -- where there is room for every row, so is the one that the call gives back: it was refused
+  pub as-it-was : (result ≡ 0 → ⊥) → 26 ≤ length numbers → f .reader ≡ reader
+  as-it-was some long = by-answer (f .answer) refl
+    where
+      by-answer : (a : Answer) → f .answer ≡ a → f .reader ≡ reader
+      by-answer (Ready r) is =
+          absurd (some (lays .answers ∙ rw is (room (rowFed (Ready r)) numbers (row-fits (r .taken) (r .start) (r .skipped) (r .length) (r .frame)) long)))
+      by-answer (More n) is = absurd (some (lays .answers ∙ rw is (room (rowFed (More n)) numbers (lit≤ tt) long)))
+      by-answer (Done n) is = absurd (some (lays .answers ∙ rw is (room (rowFed (Done n)) numbers (lit≤ tt) long)))
+      by-answer (Refused n) is =
+          ap (λ (g : Fed). g .reader) (feeds .answers)
+          ∙ refused-as-before reader offered (ap (λ (g : Fed). isNoRefusal (g .answer)) (sym (feeds .answers)) ∙ ap isNoRefusal is)

@@ -1,0 +1,83 @@
+-- A walk along the starts: how it begins, goes on over a bad start, and is followed by another; and what stands where it
+-- stops.
+-- Assumes nothing.
+use Prim.Native.Nat.{ℕ, max, _+_, _-_, _≤_, _<_}
+use mathlib.Core.Path.{_≡_, refl, sym, ap, _∙_}
+use mathlib.Core.List.{List}
+use native.Mathlib.Decide.{decLt}
+use native.Mathlib.Numerals.{add-one}
+use native.Mathlib.Omega.{arith}
+use lib.ListN.{length, take, drop, length-drop}
+use Rattle.rules.specs.Answers.{readOne}
+use Rattle.stream_rules.specs.Heads.{wait, bad, headOf, head}
+use Rattle.stream_rules.specs.Settled.{settled, reach}
+use Rattle.head_laws.proofs.Course.{headOf-decided}
+use Rattle.head_laws.proofs.Heads.{settling}
+use Rattle.seek.specs.Sought.{SettledBy, Found, Walks, Stops}
+
+module _ (family : ℕ) (bs : List ℕ) where
+  -- what stands at a place, with as many bytes as a frame there has
+  abbrev pub WholeAt : ℕ → ℕ → Type 0
+  WholeAt at n = (head family (drop at bs) ≡ headOf n (readOne family (take n (drop at bs)))) × (settled family (drop at bs) ≡ n)
+
+  -- the part of the bytes from the place on
+  pub part-there : (at n : ℕ) → take (at + n - at) (drop at bs) ≡ take n (drop at bs)
+  part-there at n = let same : at + n - at ≡ n = omega arith in ap (λ (k : ℕ). take k (drop at bs)) same
+
+  pub begins : (from far : ℕ) → Walks family bs from far from far
+  begins from far = record { ahead = omega arith; within = λ h. h; passes = λ j p q. absurd (omega arith); reaches = λ e. e }
+
+  pub goes-on : (from far at on next d : ℕ) → Walks family bs from far at on → at < length bs → SettledBy family (drop at bs) d → next ≡ max on (at + d)
+      → Walks family bs from far (at + 1) next
+  unfolding reach
+  goes-on from far at on next d w there is-bad to = record {
+    ahead = omega (arith, w .ahead);
+    within = λ h. omega (arith, there);
+    passes = λ j p q. elim (decLt j at) [
+      | yes before ↦ w .passes j p before
+      | no here ↦ let same : at ≡ j = omega arith in rw (← same) (is-bad .0)
+    ];
+    reaches = λ e. to ∙ (λ i. max (w .reaches e i) (at + sym (is-bad .1) i)) ∙ ap (λ (k : ℕ). reach family k bs) (sym (add-one at));
+  }
+
+  pub followed : (from far at on to next : ℕ) → Walks family bs from far at on → Walks family bs at on to next → Walks family bs from far to next
+  followed from far at on to next w x = record {
+    ahead = omega (arith, w .ahead, x .ahead);
+    within = λ h. x .within (w .within h);
+    passes = λ j p q. elim (decLt j at) [
+      | yes before ↦ w .passes j p before
+      | no here ↦ x .passes j (omega arith) q
+    ];
+    reaches = λ e. x .reaches (w .reaches e);
+  }
+
+  -- a decided start is settled by bytes that are there
+  pub settled-there : (at d : ℕ) → (head family (drop at bs) ≡ wait → ⊥) → settled family (drop at bs) ≡ d → (0 < d) × (d ≤ length bs - at)
+  settled-there at d decided is =
+      let k = settling family (drop at bs) decided in
+      (omega (arith, k .some, is), omega (arith, k .there, is, length-drop at bs))
+
+  pub bad-there : (at d : ℕ) → SettledBy family (drop at bs) d → d ≤ length bs - at
+  bad-there at d h = settled-there at d (λ e. let z : _≡_ {A = ℕ} 0 1 = cc (h .0) in omega arith) (h .1) .1
+
+  pub whole-there : (at n : ℕ) → WholeAt at n → (0 < n) × (n ≤ length bs - at)
+  whole-there at n h = settled-there at n (λ e. headOf-decided n (readOne family (take n (drop at bs))) (sym (h .0) ∙ e)) (h .1)
+
+  -- where the reader of one frame refuses those bytes, the start is bad, and they settled it
+  pub refused-whole : (at n : ℕ) → WholeAt at n → headOf n (readOne family (take n (drop at bs))) ≡ bad → SettledBy family (drop at bs) n
+  refused-whole at n h e = (h .0 ∙ e, h .1)
+
+  -- the stops of a walk: an undecided start, the end, and bytes to read
+  stops : (from far at on size : ℕ) → Walks family bs from far at on → Found family bs (record { at = at; size = size; reach = on })
+      → Stops family bs from far (record { at = at; size = size; reach = on })
+  stops from far at on size w f = record { walks = w; found = f }
+
+  pub stops-waiting : (from far at on : ℕ) → Walks family bs from far at on → head family (drop at bs) ≡ wait → Stops family bs from far (record { at = at; size = 0; reach = on })
+  stops-waiting from far at on w e = stops from far at on 0 w (record { waits = λ none there. e; whole = λ some. absurd (some refl) })
+
+  pub stops-at-end : (from far at on : ℕ) → Walks family bs from far at on → length bs ≤ at → Stops family bs from far (record { at = at; size = 0; reach = on })
+  stops-at-end from far at on w end = stops from far at on 0 w (record { waits = λ none there. absurd (omega arith); whole = λ some. absurd (some refl) })
+
+  pub stops-to-read : (from far at on n : ℕ) → Walks family bs from far at on → WholeAt at n → Stops family bs from far (record { at = at; size = n; reach = on })
+  stops-to-read from far at on n w h =
+      stops from far at on n w (record { waits = λ none there. absurd (omega (arith, whole-there at n h .0)); whole = λ some. h })
