@@ -133,6 +133,10 @@ over-byte s at there other =
     passes 2 s at 1 (omega arith) (omega arith)
     (λ j p. not-dollar (drop (at + j) s) (λ e. other (ap (λ (k : ℕ). getD s k 0) (omega arith) ∙ sym (getD-drop (at + j) s 0 0) ∙ e)))
 
+-- a start with no frame: none here;
+pub over-none : (s : List ℕ) (at : ℕ) → at < length s → 0 ≡ sizeAt 2 (drop at s) → Passes 2 s at (at + 1)
+over-none s at there none = passes 2 s at 1 (omega arith) (omega arith) (and-behind 2 s at 1 none (λ j q p. absurd (omega arith)))
+
 -- and a `$` with no frame: none here and in the run behind it.
 pub over-run : (s : List ℕ) (at n : ℕ) → at < length s → n ≤ length (payloadRun (drop 1 (drop at s))) → 0 ≡ sizeAt 2 (drop at s) → Passes 2 s at (at + (n + 1))
 over-run s at n there within none =

@@ -6,6 +6,7 @@ use leaves::text;
 use seek::First;
 use seek::first_good;
 use starts::payload_bytes;
+use steps::may_be_sentence;
 use steps::next_start;
 use steps::packet_size;
 use steps::sentence_size;
@@ -58,6 +59,10 @@ fn fill_sentences(capture: &[u8], starts: &mut [u32]) -> usize
     let mut n = 0;
     while at < capture.len() {
         if capture[at] != b'$' {
+            at += 1;
+            continue;
+        }
+        if !may_be_sentence(&capture[at..]) {
             at += 1;
             continue;
         }

@@ -6,6 +6,7 @@ use spe_tests::is_command;
 use starts::mark_of;
 use status_tests::is_status;
 ghost use mathlib.Core.Path.{_≡_};
+ghost use mathlib.Core.Bool.{false};
 ghost use Prim.Native.Nat.{_+_, min, _≤_};
 ghost use lib.ListN.{length, drop};
 ghost use Rattle.stream_rules.specs.Heads.{payloadRun};
@@ -46,6 +47,10 @@ fn reply_size(s: &[u8]) -> usize
     if s.len() < 75 {
         return 0;
     }
+    // nearly all that only begin as a report are turned away by its end
+    if !((s[73] == 0x0D) & (s[74] == 0x0A)) {
+        return 0;
+    }
     if is_status(&s[..75]) {
         return 75;
     }
@@ -63,6 +68,20 @@ pub(crate) fn packet_size(family: u8, s: &[u8]) -> usize
     reply_size(s)
 }
 
+// False only where no good sentence starts, by what stands in its name's place: it begins with an A, and its
+// fifth byte is a digit.
+pub(crate) fn may_be_sentence(s: &[u8]) -> bool
+    ensures { λ r. ⌜ (r ≡ false → 0 ≡ sizeAt 2 (now (s .entry))) ⌝ }
+{
+    if s.len() < 6 {
+        return false;
+    }
+    if s[1] != b'A' {
+        return false;
+    }
+    b'0' <= s[5]
+}
+
 // How long the good sentence at the head is, with n payload bytes behind its first byte; 0 where there
 // is none.
 pub(crate) fn sentence_size(s: &[u8], n: usize) -> usize
@@ -73,6 +92,9 @@ pub(crate) fn sentence_size(s: &[u8], n: usize) -> usize
         return 0;
     }
     if s.len() < n + 6 {
+        return 0;
+    }
+    if s[n + 1] != b'*' {
         return 0;
     }
     if alpha::is_sentence(text(s, 0, n + 6)) {

@@ -5,13 +5,14 @@ use Prim.Native.Nat.{ℕ, _+_, _-_, min, _≤_}
 use mathlib.Core.Path.{_≡_, sym, ap, _∙_}
 use native.Mathlib.Omega.{arith}
 use borrow.Author.Needs.{needs}
+use borrow.Author.Tests.{not-true}
 use mathlib.Core.List.{List}
 use lib.ListN.{length, drop}
 use lib.Seq.{drop-drop}
 use Rattle.stream_rules.specs.Heads.{payloadRun}
 use Rattle.head_laws.proofs.Lists.{whole-rest}
 use Rattle.lister.specs.Sizes.{sizeAt}
-use Rattle.lister.proofs.Skips.{over-byte, over-run}
+use Rattle.lister.proofs.Skips.{over-byte, over-none, over-run}
 use Rattle.lister.proofs.Filling.{Filled, nothing-filled, passed, inside, filled-in, ends}
 use Rattle.lister.proofs.fill_sentences.Statement.{statement}
 use Rattle.lister.proofs.fill_sentences.Tie as tie
@@ -24,33 +25,33 @@ abbrev μ-loop : tie.MeasureT-loop
 
 -- the run behind `at`
 counted : (c : tie.After-payload-bytes Inv-loop μ-loop)
-    → c .payload-bytes .result ≡ min (length (payloadRun (drop 1 (drop (c .before .before .before .before .before .loop .at) (c .before .before .before .before .before .before .before .before .args .capture .now))))) 129
+    → c .payload-bytes .result ≡ min (length (payloadRun (drop 1 (drop (c .before .before .before .before .before .before .before .before .loop .at) (c .before .before .before .before .before .before .before .before .before .before .before .args .capture .now))))) 129
 counted c =
-    let s = c .before .before .before .before .before .before .before .before .args .capture .now in
-    let at = c .before .before .before .before .before .loop .at in
+    let s = c .before .before .before .before .before .before .before .before .before .before .before .args .capture .now in
+    let at = c .before .before .before .before .before .before .before .before .loop .at in
     c .payload-bytes .ensures ∙ ap (λ (l : List ℕ). min (length (payloadRun l)) 129) (whole-rest s (at + 1) ∙ sym (drop-drop 1 at s))
 
 -- what stands at `at`
-module _ (c : tie.Else2 Inv-loop μ-loop) where
+module _ (c : tie.Else3 Inv-loop μ-loop) where
   abbrev start : tie.Start Inv-loop μ-loop
-  start = c .before .before .before .before .before .before .before .before .before .before .before
+  start = c .before .before .before .before .before .before .before .before .before .before .before .before .before .before
 
   abbrev size : ℕ
   size = c .before .sentence-size .result
 
-  is-size : size ≡ sizeAt 2 (drop (c .before .before .before .before .before .before .before .before .loop .at) (start .args .capture .now))
-  is-size = c .before .sentence-size .ensures ∙ ap (sizeAt 2) (whole-rest (start .args .capture .now) (c .before .before .before .before .before .before .before .before .loop .at))
+  is-size : size ≡ sizeAt 2 (drop (c .before .before .before .before .before .before .before .before .before .before .before .loop .at) (start .args .capture .now))
+  is-size = c .before .sentence-size .ensures ∙ ap (sizeAt 2) (whole-rest (start .args .capture .now) (c .before .before .before .before .before .before .before .before .before .before .before .loop .at))
 
-  within : c .before .before .before .before .before .before .before .before .loop .at + size ≤ length (start .args .capture .now)
-  within = inside _ _ _ _ _ _ (c .before .before .before .before .before .before .before .before .loop .inv) size is-size (c .if2 .left)
+  within : c .before .before .before .before .before .before .before .before .before .before .before .loop .at + size ≤ length (start .args .capture .now)
+  within = inside _ _ _ _ _ _ (c .before .before .before .before .before .before .before .before .before .before .before .loop .inv) size is-size (c .if3 .left)
 
 -- where a start has been noted
 module _ (c : tie.After-slice-known2 Inv-loop μ-loop) where
-  abbrev frame : tie.Else2 Inv-loop μ-loop
+  abbrev frame : tie.Else3 Inv-loop μ-loop
   frame = c .before .before .before .before
 
   abbrev before : tie.At-loop Inv-loop μ-loop
-  before = frame .before .before .before .before .before .before .before .before
+  before = frame .before .before .before .before .before .before .before .before .before .before .before
 
   small : (before .loop .at + size frame ≤ 65536) × (before .loop .n ≤ before .loop .at)
   small = (omega (arith, within frame, start frame .pre), before .loop .inv .few)
@@ -72,6 +73,32 @@ loop-again c =
     let a = c .before .before .before .before .before .before .args in
     let loop = c .before .before .before .loop in
     passed _ _ _ _ _ _ (loop .inv) _ (over-byte (a .capture .now) (loop .at) (omega arith) (c .if1 .taken))
+
+sub-may-be-sentence : tie.Need-sub-may-be-sentence Inv-loop μ-loop
+sub-may-be-sentence c = omega arith
+
+part-may-be-sentence-start : tie.Need-part-may-be-sentence-start Inv-loop μ-loop
+part-may-be-sentence-start c = omega arith
+
+part-may-be-sentence-end : tie.Need-part-may-be-sentence-end Inv-loop μ-loop
+part-may-be-sentence-end c = omega arith
+
+may-be-sentence-requires : tie.Need-may-be-sentence-requires Inv-loop μ-loop
+may-be-sentence-requires c κs = search needs
+
+add-at-2 : tie.Need-add-at-2 Inv-loop μ-loop
+add-at-2 c = omega arith
+
+loop-less-2 : tie.Need-loop-less-2 Inv-loop μ-loop
+loop-less-2 c = omega arith
+
+loop-again-2 : tie.Need-loop-again-2 Inv-loop μ-loop
+loop-again-2 c =
+    let a = c .before .before .before .before .before .before .before .before .before .args in
+    let loop = c .before .before .before .before .before .before .loop in
+    passed _ _ _ _ _ _ (loop .inv) _
+    (over-none (a .capture .now) (loop .at) (omega arith)
+    (c .before .may-be-sentence .ensures (not-true _ (c .if2 .taken)) ∙ ap (sizeAt 2) (whole-rest (a .capture .now) (loop .at))))
 
 add-payload-bytes : tie.Need-add-payload-bytes Inv-loop μ-loop
 add-payload-bytes c = omega arith
@@ -100,25 +127,25 @@ part-sentence-size-end c = omega arith
 sentence-size-requires : tie.Need-sentence-size-requires Inv-loop μ-loop
 sentence-size-requires c κs =
     counted (c .before)
-    ∙ ap (λ (l : List ℕ). min (length (payloadRun (drop 1 l))) 129) (sym (whole-rest (c .before .before .before .before .before .before .before .before .before .args .capture .now) (c .before .before .before .before .before .before .loop .at)))
-
-add-at-2 : tie.Need-add-at-2 Inv-loop μ-loop
-add-at-2 c = omega arith
+    ∙ ap (λ (l : List ℕ). min (length (payloadRun (drop 1 l))) 129) (sym (whole-rest (c .before .before .before .before .before .before .before .before .before .before .before .before .args .capture .now) (c .before .before .before .before .before .before .before .before .before .loop .at)))
 
 add-at-3 : tie.Need-add-at-3 Inv-loop μ-loop
 add-at-3 c = omega arith
 
-loop-less-2 : tie.Need-loop-less-2 Inv-loop μ-loop
-loop-less-2 c = omega arith
+add-at-4 : tie.Need-add-at-4 Inv-loop μ-loop
+add-at-4 c = omega arith
 
-loop-again-2 : tie.Need-loop-again-2 Inv-loop μ-loop
-loop-again-2 c =
-    let a = c .before .before .before .before .before .before .before .before .before .before .before .args in
-    let loop = c .before .before .before .before .before .before .before .before .loop in
+loop-less-3 : tie.Need-loop-less-3 Inv-loop μ-loop
+loop-less-3 c = omega arith
+
+loop-again-3 : tie.Need-loop-again-3 Inv-loop μ-loop
+loop-again-3 c =
+    let a = c .before .before .before .before .before .before .before .before .before .before .before .before .before .before .args in
+    let loop = c .before .before .before .before .before .before .before .before .before .before .before .loop in
     let run = c .before .before .before in
     passed _ _ _ _ _ _ (loop .inv) _
     (over-run (a .capture .now) (loop .at) (run .payload-bytes .result) (omega arith) (omega (arith, counted run))
-    (sym (c .if2 .taken) ∙ c .before .sentence-size .ensures ∙ ap (sizeAt 2) (whole-rest (a .capture .now) (loop .at))))
+    (sym (c .if3 .taken) ∙ c .before .sentence-size .ensures ∙ ap (sizeAt 2) (whole-rest (a .capture .now) (loop .at))))
 
 note-requires : tie.Need-note-requires Inv-loop μ-loop
 note-requires c κs = omega (arith, within (c .before), start (c .before) .pre)
@@ -126,16 +153,16 @@ note-requires c κs = omega (arith, within (c .before), start (c .before) .pre)
 add-n : tie.Need-add-n Inv-loop μ-loop
 add-n c = omega (arith, small c)
 
-add-at-4 : tie.Need-add-at-4 Inv-loop μ-loop
-add-at-4 c = omega (arith, small c)
+add-at-5 : tie.Need-add-at-5 Inv-loop μ-loop
+add-at-5 c = omega (arith, small c)
 
-loop-less-3 : tie.Need-loop-less-3 Inv-loop μ-loop
-loop-less-3 c = omega (arith, within (frame c), frame c .if2 .left)
+loop-less-4 : tie.Need-loop-less-4 Inv-loop μ-loop
+loop-less-4 c = omega (arith, within (frame c), frame c .if3 .left)
 
-loop-again-3 : tie.Need-loop-again-3 Inv-loop μ-loop
-loop-again-3 c =
+loop-again-4 : tie.Need-loop-again-4 Inv-loop μ-loop
+loop-again-4 c =
     rw (c .before .before .note .ensures)
-    (filled-in _ _ _ _ _ _ (before c .loop .inv) (size (frame c)) (is-size (frame c)) (frame c .if2 .left))
+    (filled-in _ _ _ _ _ _ (before c .loop .inv) (size (frame c)) (is-size (frame c)) (frame c .if3 .left))
 
 same-length : tie.Need-same-length Inv-loop μ-loop
 same-length c = c .before .loop .inv .same
@@ -156,6 +183,13 @@ fill-sentences-spec =
     add-at
     loop-less
     loop-again
+    sub-may-be-sentence
+    part-may-be-sentence-start
+    part-may-be-sentence-end
+    may-be-sentence-requires
+    add-at-2
+    loop-less-2
+    loop-again-2
     add-payload-bytes
     sub-payload-bytes
     part-payload-bytes-start
@@ -165,14 +199,14 @@ fill-sentences-spec =
     part-sentence-size-start
     part-sentence-size-end
     sentence-size-requires
-    add-at-2
     add-at-3
-    loop-less-2
-    loop-again-2
-    note-requires
-    add-n
     add-at-4
     loop-less-3
     loop-again-3
+    note-requires
+    add-n
+    add-at-5
+    loop-less-4
+    loop-again-4
     same-length
     returns)
