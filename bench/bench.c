@@ -39,8 +39,8 @@ static double now(void)
 typedef uint32_t lister(uint32_t family, const uint8_t *s, size_t n, uint32_t *starts, size_t places,
                         size_t *count);
 
-/* Each takes one capture in pieces of a size and gives the number of frames. For a lister a piece is a
- * capture of its own; for the stream it is what one call offers. */
+/* Each takes one capture in pieces of a size and gives the number of frames, or for the least calls of bytes
+ * taken. For a lister a piece is a capture of its own; for the stream it is what one call offers. */
 static size_t by_lister(lister *list, unsigned family, const unsigned char *s, size_t piece)
 {
     size_t at, count = 0, frames = 0;
@@ -195,7 +195,7 @@ static int agree(unsigned family, unsigned i)
 #define ASKED 4.0 /* the stream is to take at most so many times the lister's time */
 
 static double worst, sum_proved, sum_plain;
-static unsigned within, beyond, over; /* of the stream's measures: at most that; more, as the least calls do; more */
+static unsigned within, beyond, over; /* of the stream's measures: at most that; more, as the least calls too; more */
 
 static void print_stream(double proved)
 {
@@ -259,6 +259,6 @@ int main(int argc, char **argv)
                 return 1;
     printf("all find the same starts; time proved / plain: %.2f over all, %.2f at worst\n",
            sum_proved / sum_plain, worst);
-    printf("stream within %.0f times the lister: %u; more, and the least calls too: %u; more: %u\n", ASKED, within, beyond, over);
+    printf("stream within %.0f times the lister: %u; more, and the least calls too: %u; more, and those not: %u\n", ASKED, within, beyond, over);
     return 0;
 }

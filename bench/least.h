@@ -1,4 +1,5 @@
-/* A call on a stream that does next to nothing: what no reader of streams can go below. */
+/* A call on a stream that does next to nothing: what no reader that is called as amp_feed is, and answers by a
+ * row, can go below. */
 #ifndef LEAST_H
 #define LEAST_H
 

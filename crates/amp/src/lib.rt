@@ -1,7 +1,8 @@
 // The C boundary: the reader of one frame, the streams, the lister, the capture reader's search, the
 // writers and the order of stamps, as functions that a C program calls. Each gives one number back, of most of
 // them that of a refusal or 0, and leaves the rest in memory that is lent to it. Those on a lent
-// reader are thin over calls by value, but that which feeds it: there the reader is altered where it stands.
+// reader are thin over calls by value, except the one that feeds it: there the reader is altered where it
+// stands.
 use stream_rules::Listed;
 use stream_rules::Order;
 use stream_rules::Outcome;

@@ -1,2 +1,2 @@
--- What stands at the head of some bytes.
+-- What is seen of a start before a frame is read there.
 pub mod Seen

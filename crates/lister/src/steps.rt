@@ -68,8 +68,8 @@ pub(crate) fn packet_size(family: u8, s: &[u8]) -> usize
     reply_size(s)
 }
 
-// False only where no good sentence starts, by what stands in its name's place: it begins with an A, and its
-// fifth byte is a digit.
+// False only where no good sentence starts, by what stands in its name's place: that begins with an A, and no
+// digit is below 0.
 pub(crate) fn may_be_sentence(s: &[u8]) -> bool
     ensures { λ r. ⌜ (r ≡ false → 0 ≡ sizeAt 2 (now (s .entry))) ⌝ }
 {

@@ -1,6 +1,6 @@
 -- A start whose byte is not the first of the family's frames is bad, and that byte settles it.
 -- Assumes nothing.
-use Prim.Native.Nat.{ℕ, _-_, _<_}
+use Prim.Native.Nat.{ℕ, _<_}
 use mathlib.Core.Path.{_≡_, sym, ap, subst, subst⁻¹, _∙_}
 use mathlib.Core.Bool.{Bool, cond}
 use mathlib.Core.List.{List}
@@ -12,10 +12,15 @@ use native.Mathlib.Nat.{add-zero}
 use native.Mathlib.Omega.{arith}
 use lib.ListN.{length, drop, getD, length-drop}
 use lib.Seq.{getD-drop}
-use Rattle.stream_rules.specs.Heads.{markOf}
+use Rattle.stream_rules.specs.Heads.{markOf, bad, head}
+use Rattle.stream_rules.specs.Settled.{settled}
 use Rattle.head_laws.proofs.PacketStarts.{no-marks, no-mark}
 use Rattle.head_laws.proofs.SentenceStarts.{no-dollar}
-use Rattle.seek.specs.Sought.{firstOf, SettledBy}
+use Rattle.seek.specs.Sought.{firstOf}
+
+-- a bad start, and how many bytes settled it
+abbrev pub SettledBy : ℕ → List ℕ → ℕ → Type 0
+SettledBy family bs d = (head family bs ≡ bad) × (settled family bs ≡ d)
 
 -- of an SPE family it is the mark
 pub first-mark : (family : ℕ) → (family ≡ 2 → ⊥) → firstOf family ≡ markOf family

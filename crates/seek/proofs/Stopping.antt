@@ -13,7 +13,8 @@ use Rattle.stream_rules.specs.Heads.{wait, bad, headOf, head}
 use Rattle.stream_rules.specs.Settled.{settled, reach}
 use Rattle.head_laws.proofs.Course.{headOf-decided}
 use Rattle.head_laws.proofs.Heads.{settling}
-use Rattle.seek.specs.Sought.{SettledBy, Found, Walks, Stops}
+use Rattle.seek.specs.Sought.{AtStop, Walks, Stops}
+use Rattle.seek.proofs.Firsts.{SettledBy}
 
 module _ (family : ℕ) (bs : List ℕ) where
   -- what stands at a place, with as many bytes as a frame there has
@@ -68,7 +69,7 @@ module _ (family : ℕ) (bs : List ℕ) where
   refused-whole at n h e = (h .0 ∙ e, h .1)
 
   -- the stops of a walk: an undecided start, the end, and bytes to read
-  stops : (from far at on size : ℕ) → Walks family bs from far at on → Found family bs (record { at = at; size = size; reach = on })
+  stops : (from far at on size : ℕ) → Walks family bs from far at on → AtStop family bs (record { at = at; size = size; reach = on })
       → Stops family bs from far (record { at = at; size = size; reach = on })
   stops from far at on size w f = record { walks = w; found = f }
 

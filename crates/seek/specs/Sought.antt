@@ -20,13 +20,9 @@ use Rattle.seek.specs.declared.First.the-variants.{At, Nothing}
 abbrev pub firstOf : ℕ → ℕ
 firstOf family = cond (eqb family 2) (code "$") (markOf family)
 
--- a bad start, and how many bytes settled it
-abbrev pub SettledBy : ℕ → List ℕ → ℕ → Type 0
-SettledBy family bs d = (head family bs ≡ bad) × (settled family bs ≡ d)
-
 -- What stands at a stop: behind the last start nothing; else an undecided start, or as many bytes as a frame there has, of
 -- which the reader of one frame decides.
-pub record Found (family : ℕ) (bs : List ℕ) (r : Stop) : Type 0 where
+pub record AtStop (family : ℕ) (bs : List ℕ) (r : Stop) : Type 0 where
   pub waits : r .size ≡ 0 → r .at < length bs → head family (drop (r .at) bs) ≡ wait
   pub whole : (r .size ≡ 0 → ⊥)
       → (head family (drop (r .at) bs) ≡ headOf (r .size) (readOne family (take (r .size) (drop (r .at) bs)))) × (settled family (drop (r .at) bs) ≡ r .size)
@@ -41,7 +37,7 @@ pub record Walks (family : ℕ) (bs : List ℕ) (from far at on : ℕ) : Type 0 
 -- the first stop from a place on
 pub record Stops (family : ℕ) (bs : List ℕ) (from far : ℕ) (r : Stop) : Type 0 where
   pub walks : Walks family bs from far (r .at) (r .reach)
-  pub found : Found family bs r
+  pub found : AtStop family bs r
 
 -- the first start that is not bad
 unfoldable pub soughtIn : ℕ → List ℕ → SoughtType.Sought

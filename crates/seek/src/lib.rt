@@ -71,7 +71,7 @@ struct Stop {
 }
 
 // The first start from a place on that is undecided, or of which the reader of one frame has to decide. (Only
-// numbers go in and come back, in which there is nothing to wait for; the frame is read by who asked.)
+// numbers go in and come back, so that nothing is copied; the caller reads the frame.)
 fn next_stop(family: u8, s: &[u8], from: usize, far: usize) -> Stop
     ensures { λ r. ⌜ Stops family (now (s .entry)) from far r ⌝ }
 {
@@ -99,7 +99,7 @@ fn next_stop(family: u8, s: &[u8], from: usize, far: usize) -> Stop
                 reach = further(reach, at + d);
             }
         }
-        at += 1;
+        at += 1; // one byte further, however many settled it
     }
     Stop { at, size: 0, reach }
 }

@@ -1,14 +1,16 @@
 -- The answers of a reader, from the turn that gives them: the counts that wrap, and the rules of a call.
 -- Assumes nothing.
-use Prim.Native.Nat.{ℕ, _+_, _-_, _%_, _^_}
+use Prim.Native.Nat.{ℕ, _+_, _%_, _^_}
 use mathlib.Core.Path.{_≡_, sym, ap, _∙_}
 use native.Mathlib.Nat.{zero-add, add-mod-mod}
 use Rattle.stream_rules.specs.Rule.{Call, gives, wants}
 use Rattle.stream_rules.specs.Streams.{wrap, openCall}
 use Rattle.stream_rules.specs.declared.Reader.{Reader}
+use Rattle.stream_rules.specs.declared.Fed.{Fed}
 use Rattle.stream_rules.specs.declared.Ready.{Ready as HandedOut}
 use Rattle.stream_rules.specs.declared.Answer.the-variants.{Ready as FrameReady, More}
-use Rattle.stream.specs.Turns.{turned, handedOut, movedStep, movedBy, fedBy}
+use Rattle.stream.specs.Places.{fedAt}
+use Rattle.stream.specs.Turns.{Turn, turned, handedOut, movedStep, movedBy}
 use Rattle.stream.specs.declared.pieces.Step.the-variants.{Ready, Waiting}
 use Rattle.stream.specs.declared.pieces.Got.{Got}
 use Rattle.stream.specs.declared.pieces.Next.{Next}
@@ -29,6 +31,10 @@ module _ (at skipped : ℕ) (next : Next) where
       → record { count = next .count; at = on; skipped = passed; answer = More t } ≡ movedBy at skipped next
   of-waiting t s is on passed e d =
       (λ i. record { count = next .count; at = e i; skipped = d i; answer = More t }) ∙ ap (movedStep at skipped (next .count)) (sym is)
+
+-- a turn of a reader, as what a call gives back
+abbrev pub fedBy : Reader → Turn → Fed
+fedBy r turn = fedAt (r .family) (r .closed) (turn .held) (movedStep (r .at) (r .skipped) (turn .count) (turn .step))
 
 -- The answer of the turn of a call is what the rules say of the call.
 pub by-call : (r : Reader) (c : Call) → fedBy r (turned c) ≡ openCall r c

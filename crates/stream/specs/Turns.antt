@@ -7,10 +7,8 @@ use Rattle.rules.specs.Bytes.{part}
 use Rattle.stream_rules.specs.Heads.{longest, head, atClose}
 use Rattle.stream_rules.specs.Rule.{look, Call, gives, wants, call}
 use Rattle.stream_rules.specs.Streams.{wrap, closedCall}
-use Rattle.stream_rules.specs.declared.Reader.{Reader}
 use Rattle.stream_rules.specs.declared.Answer.the-variants.{Ready as FrameReady, More, Done}
 use Rattle.stream_rules.specs.declared.Ready.{Ready as HandedOut}
-use Rattle.stream_rules.specs.declared.Fed.{Fed}
 use Rattle.stream.specs.declared.pieces.Got.{Got}
 use Rattle.stream.specs.declared.pieces.Step.{Step}
 use Rattle.stream.specs.declared.pieces.Step.the-variants.{Ready, Waiting}
@@ -89,10 +87,6 @@ movedBy at skipped n = movedStep at skipped (n .count) (n .step)
 -- done, with these bytes dropped
 abbrev pub doneBy : ℕ → ℕ → ℕ → Moved
 doneBy at skipped dropped = record { count = 0; at = wrap (at + dropped); skipped = wrap (skipped + dropped); answer = Done 0 }
-
--- a turn of a reader, as what a call gives back
-abbrev pub fedBy : Reader → Turn → Fed
-fedBy r turn = fedAt (r .family) (r .closed) (turn .held) (movedStep (r .at) (r .skipped) (turn .count) (turn .step))
 
 -- the parts of a closed reader are drained, whatever its flag
 abbrev pub Drains : ℕ → List ℕ → ℕ → ℕ → ℕ → List ℕ → Moved → Type 0

@@ -1,5 +1,6 @@
 // A call on all that is offered, which alters the held places where they stand. The bytes offered are searched
-// where they stand too, as a whole; only what is held is joined first, in a buffer, with the next of them.
+// where they stand too, as a whole; only what is held is joined first, in its places or in a buffer, with
+// the next of them.
 use leaves::further;
 use leaves::text;
 use pens::put_bytes;
@@ -54,7 +55,8 @@ pub(crate) fn longest_frame(family: u8) -> usize
     6
 }
 
-// How many bytes there are.
+// How many bytes there are: a function of its own, because a proof knows no length of an array behind a
+// reference, and has it of the slice that this is lent.
 pub(crate) fn size(s: &[u8]) -> usize
     ensures { λ r. ⌜ r ≡ length (now (s .entry)) ⌝ }
 {
@@ -69,6 +71,18 @@ pub(crate) fn keep(s: &[u8], a: usize, n: usize) -> [u8; 133]
     let mut held = [0u8; 133];
     put_bytes(&mut held, 0, text(s, a, n));
     held
+}
+
+// Zeros in the held places from one of them on.
+fn clear_from(places: &mut [u8; 133], from: usize)
+    requires { ⌜ (from ≤ 133) × (length (now places) ≡ 133) ⌝ }
+    ensures { λ _. ⌜ now (places .exit) ≡ filled (take from (now (places .entry))) ⌝ }
+{
+    let mut i = from;
+    while i < 133 {
+        places[i] = 0;
+        i += 1;
+    }
 }
 
 // What a call does with bytes whose first ones it held.
@@ -99,18 +113,6 @@ fn search(family: u8, work: &[u8], count: usize, taken: usize, skipped: usize) -
                 to,
             }
         }
-    }
-}
-
-// Zeros in the held places from one of them on.
-fn clear_from(places: &mut [u8; 133], from: usize)
-    requires { ⌜ (from ≤ 133) × (length (now places) ≡ 133) ⌝ }
-    ensures { λ _. ⌜ now (places .exit) ≡ filled (take from (now (places .entry))) ⌝ }
-{
-    let mut i = from;
-    while i < 133 {
-        places[i] = 0;
-        i += 1;
     }
 }
 

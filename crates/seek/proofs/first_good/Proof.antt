@@ -16,7 +16,7 @@ use Rattle.stream_rules.specs.Rule.{Look, byLook}
 use Rattle.seek_laws.proofs.Families.{facts}
 use Rattle.seek_laws.proofs.Starts.{NotGood}
 use Rattle.seek_laws.proofs.Walks.{Passed, nothing-passed, passes, first-good, none-left}
-use Rattle.seek.specs.Sought.{firstFrom, Found, Stops}
+use Rattle.seek.specs.Sought.{firstFrom, AtStop, Stops}
 use Rattle.seek.proofs.Stopping.{part-there, whole-there}
 use Rattle.seek.specs.declared.First.{First}
 use Rattle.seek.specs.declared.First.the-variants.{At, Nothing}
@@ -66,7 +66,7 @@ first-stop family s from far q next =
     (λ j low. bad-not-good (next .walks .passes (from + j) (omega arith) (omega arith))))
 
 abbrev Inv-loop : tie.InvT-loop
-Inv-loop family s from stop₀ stop = Passed (head family) s from (stop .at) × Found family s stop
+Inv-loop family s from stop₀ stop = Passed (head family) s from (stop .at) × AtStop family s stop
 
 abbrev μ-loop : tie.MeasureT-loop
 μ-loop family s from stop₀ stop = length s - stop .at

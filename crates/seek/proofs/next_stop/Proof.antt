@@ -13,8 +13,8 @@ use Rattle.head_laws.proofs.Lists.{whole-rest}
 use Rattle.heads.specs.Seen.{seen}
 use Rattle.heads.specs.declared.Seen.the-variants.{Whole, Bad}
 use Rattle.heads.proofs.Starts.{seen-whole, seen-bad, seen-undecided}
-use Rattle.seek.specs.Sought.{SettledBy, Walks}
-use Rattle.seek.proofs.Firsts.{other-first}
+use Rattle.seek.specs.Sought.{Walks}
+use Rattle.seek.proofs.Firsts.{SettledBy, other-first}
 use Rattle.seek.proofs.Soon.{not-good}
 use Rattle.seek.proofs.Stopping.{WholeAt, part-there, begins, goes-on, bad-there, whole-there, refused-whole, stops-waiting, stops-at-end, stops-to-read}
 use Rattle.seek.proofs.next_stop.Statement.{statement}

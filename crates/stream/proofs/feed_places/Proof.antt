@@ -1,7 +1,7 @@
 -- `stream::feed_places` meets its contract: its tests are the refusals, in their order; behind them a turn is the call, and a drain the
 -- look at close. That the test of the places fails is what the contract takes for granted.
 -- Assumes nothing.
-use Prim.Native.Nat.{_-_, _≤_, _<_}
+use Prim.Native.Nat.{_≤_, _<_}
 use mathlib.Core.Path.{_≡_, sym, ap, subst, _∙_}
 use mathlib.Core.Bool.{true}
 use mathlib.Core.List.{[]}
@@ -19,8 +19,8 @@ use Rattle.stream_laws.proofs.States.{longest-fits, refused-1, refused-6, refus
 use Rattle.stream_laws.proofs.Saying.{feeds}
 use Rattle.seek_laws.proofs.Families.{facts}
 use Rattle.stream.specs.Places.{readerAt, fedAt}
-use Rattle.stream.specs.Turns.{Turn, StepFits, fedBy}
-use Rattle.stream.proofs.Counts.{by-call}
+use Rattle.stream.specs.Turns.{Turn, StepFits}
+use Rattle.stream.proofs.Counts.{fedBy, by-call}
 use Rattle.stream.proofs.Closing.{turn-fits}
 use Rattle.stream.proofs.feed_places.Statement.{statement}
 use Rattle.stream.proofs.feed_places.Tie as tie
