@@ -15,18 +15,13 @@ use Rattle.rules.specs.declared.Reading.the-variants.{Good, Refused}
 use Rattle.stream_rules.specs.Heads.{needs, payloadRun, lengthAt, Head, wait, bad, good, head}
 use Rattle.stream_rules.specs.Rule.{byHead}
 use Rattle.head_laws.proofs.Heads.{complete, GoodHead, good-head}
-use Rattle.head_laws.proofs.PacketStarts.{needs-six}
+use Rattle.heads.proofs.Starts.{at-least-six}
 use Rattle.seek_laws.proofs.Starts.{NotGood}
 use Rattle.lister.specs.Sizes.{sizeAt}
 
--- No frame has fewer than six bytes: a count that is allowed needs six or more, and a sentence has six besides its payload.
+-- no frame has fewer than six bytes
 pub six : (family : ℕ) (bs : List ℕ) (n : ℕ) (f : Frame) → GoodHead family bs n f → 6 ≤ n
-six family bs n f g = omega (arith, g .declared, case (eqb family 2) (omega (arith, g .some, g .declared)))
-  where
-    case : (b : Bool) → 0 < cond b (length (payloadRun (drop 1 bs)) + 6) (needs family (getD bs 3 0))
-        → 6 ≤ cond b (length (payloadRun (drop 1 bs)) + 6) (needs family (getD bs 3 0))
-    case true h = omega arith
-    case false h = needs-six family (getD bs 3 0) h
+six family bs n f g = omega (arith, g .declared, at-least-six family bs (omega (arith, g .some, g .declared)))
 
 module _ (family : ℕ) (bs : List ℕ) where
   -- no good frame: 0

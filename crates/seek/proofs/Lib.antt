@@ -1,5 +1,5 @@
--- `Firsts` has what the first byte of a start settles, `Soon` which bytes are no good frame, and `Stopping` how a walk along
--- the starts goes on and stops.
-pub mod Firsts
+-- `Passing` has which starts are bad by a byte further on, `Soon` which bytes are no good frame, and `Stopping` how a walk
+-- along the starts goes on and stops.
+pub mod Passing
 pub mod Soon
 pub mod Stopping

@@ -1,20 +1,22 @@
 -- A walk along the starts: how it begins, goes on over a bad start, and is followed by another; and what stands where it
 -- stops.
 -- Assumes nothing.
-use Prim.Native.Nat.{ℕ, max, _+_, _-_, _≤_, _<_}
-use mathlib.Core.Path.{_≡_, refl, sym, ap, _∙_}
+use Prim.Native.Nat.{ℕ, zero, suc, max, _+_, _-_, _≤_, _<_}
+use mathlib.Core.Path.{_≡_, refl, sym, ap, subst, _∙_}
 use mathlib.Core.List.{List}
-use native.Mathlib.Decide.{decLt}
+use native.Mathlib.Decide.{decLt, ℕ-discrete}
+use native.Mathlib.Nat.{add-zero, add-suc}
 use native.Mathlib.Numerals.{add-one}
 use native.Mathlib.Omega.{arith}
 use lib.ListN.{length, take, drop, length-drop}
+use lib.Seq.{drop-drop}
 use Rattle.rules.specs.Answers.{readOne}
 use Rattle.stream_rules.specs.Heads.{wait, bad, headOf, head}
 use Rattle.stream_rules.specs.Settled.{settled, reach}
 use Rattle.head_laws.proofs.Course.{headOf-decided}
 use Rattle.head_laws.proofs.Heads.{settling}
 use Rattle.seek.specs.Sought.{AtStop, Walks, Stops}
-use Rattle.seek.proofs.Firsts.{SettledBy}
+use Rattle.seek.proofs.Passing.{SettledBy, BadBy}
 
 module _ (family : ℕ) (bs : List ℕ) where
   -- what stands at a place, with as many bytes as a frame there has
@@ -38,8 +40,59 @@ module _ (family : ℕ) (bs : List ℕ) where
       | yes before ↦ w .passes j p before
       | no here ↦ let same : at ≡ j = omega arith in rw (← same) (is-bad .0)
     ];
-    reaches = λ e. to ∙ (λ i. max (w .reaches e i) (at + sym (is-bad .1) i)) ∙ ap (λ (k : ℕ). reach family k bs) (sym (add-one at));
+    reaches = λ e.
+        let on-one : reach family (at + 1) bs ≡ max (reach family at bs) (at + d) =
+        ap (λ (k : ℕ). reach family k bs) (add-one at) ∙ ap (λ (k : ℕ). max (reach family at bs) (at + k)) (is-bad .1) in
+        omega (arith, w .reaches e, to, on-one);
   }
+
+  -- over some starts at once, of which none reaches behind a frame that starts further on
+  no-farther : (at k top : ℕ) → ((j : ℕ) → j < k → j + settled family (drop (at + j) bs) ≤ top)
+      → (reach family at bs ≤ reach family (at + k) bs) × (reach family (at + k) bs ≤ max (reach family at bs) (at + top))
+  unfolding reach
+  no-farther at zero top each = let same : reach family (at + 0) bs ≡ reach family at bs = ap (λ (k : ℕ). reach family k bs) (add-zero at) in (omega (arith, same), omega (arith, same))
+  no-farther at (suc k) top each =
+      let before = no-farther at k top (λ j p. each j (omega arith)) in
+      let last = each k (omega arith) in
+      let more : reach family (at + suc k) bs ≡ max (reach family (at + k) bs) (at + k + settled family (drop (at + k) bs)) =
+      ap (λ (n : ℕ). reach family n bs) (add-suc at k) in
+      (omega (arith, before, more), omega (arith, before, last, more))
+
+  pub skips : (from far at on k : ℕ) → Walks family bs from far at on → at + k ≤ length bs
+      → ((j : ℕ) → j < k → BadBy family (drop (at + j) bs) (k + 6 - j)) → Walks family bs from far (at + k) on
+  skips from far at on k w there each = record {
+    ahead = omega (arith, w .ahead);
+    within = λ h. there;
+    passes = λ j p q. elim (decLt j at) [
+      | yes before ↦ w .passes j p before
+      | no here ↦ let same : at + (j - at) ≡ j = omega arith in rw same at (each (j - at) (omega arith) .0)
+    ];
+    reaches = λ e.
+        let near = no-farther at k (k + 6) (λ j p. omega (arith, each j p .1)) in
+        omega (arith, w .reaches e, near);
+  }
+
+  -- those of a bad start and of some behind it
+  pub passes-over : (from far at on k : ℕ) → Walks family bs from far at on → at + k ≤ length bs → BadBy family (drop at bs) (k + 6)
+      → ((j : ℕ) → 0 < j → j < k → BadBy family (drop j (drop at bs)) (k + 6 - j)) → Walks family bs from far (at + k) on
+  passes-over from far at on k w there here behind =
+      skips from far at on k w there
+      (λ j p. elim (ℕ-discrete j 0) [
+        | yes first ↦ let same : at ≡ at + j = omega (arith, first) in rw (← same) (here .0, omega (arith, here .1, first))
+        | no later ↦ rw (← drop-drop j at bs) (behind j (omega arith) p)
+      ])
+
+  -- and of a bad start that is counted, with those behind it
+  pub counts-and-passes : (from far at on next d k : ℕ) → Walks family bs from far at on → at + (k + 1) ≤ length bs → SettledBy family (drop at bs) d → next ≡ max on (at + d)
+      → ((j : ℕ) → 0 < j → j < k + 1 → BadBy family (drop j (drop at bs)) (k + 7 - j)) → Walks family bs from far (at + (k + 1)) next
+  counts-and-passes from far at on next d k w there is-bad to behind =
+      let same : at + 1 + k ≡ at + (k + 1) = omega arith in
+      subst (λ (n : ℕ). Walks family bs from far n next) same
+      (skips from far (at + 1) next k (goes-on from far at on next d w (omega arith) is-bad to) (omega arith)
+      (λ j p.
+      let one : at + 1 + j ≡ at + (j + 1) = omega arith in
+      let h = behind (j + 1) (omega arith) (omega arith) in
+      rw (one, ← drop-drop (j + 1) at bs) (h .0, omega (arith, h .1))))
 
   pub followed : (from far at on to next : ℕ) → Walks family bs from far at on → Walks family bs at on to next → Walks family bs from far to next
   followed from far at on to next w x = record {

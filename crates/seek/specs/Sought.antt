@@ -1,13 +1,10 @@
 -- What the walks along the starts give, in the words of the rules.
-use Prim.Native.Nat.{ℕ, _+_, _≤_, _<_}
-use Prim.Native.Char.{code}
+use Prim.Native.Nat.{ℕ, suc, max, _+_, _≤_, _<_}
 use mathlib.Core.Path.{_≡_}
-use mathlib.Core.Bool.{cond}
 use mathlib.Core.List.{List}
-use lib.Dec.{eqb}
 use lib.ListN.{length, take, drop}
 use Rattle.rules.specs.Answers.{readOne}
-use Rattle.stream_rules.specs.Heads.{markOf, wait, bad, headOf, head, atClose}
+use Rattle.stream_rules.specs.Heads.{wait, bad, headOf, head, atClose}
 use Rattle.stream_rules.specs.Rule.{look, byLook}
 use Rattle.stream_rules.specs.Settled.{settled, reach}
 use Rattle.seek.specs.declared.Sought as SoughtType
@@ -16,10 +13,6 @@ use Rattle.seek.specs.declared.Stop.{Stop}
 use Rattle.seek.specs.declared.First.{First}
 use Rattle.seek.specs.declared.First.the-variants.{At, Nothing}
 
--- the byte that every frame of a family starts with
-abbrev pub firstOf : ℕ → ℕ
-firstOf family = cond (eqb family 2) (code "$") (markOf family)
-
 -- What stands at a stop: behind the last start nothing; else an undecided start, or as many bytes as a frame there has, of
 -- which the reader of one frame decides.
 pub record AtStop (family : ℕ) (bs : List ℕ) (r : Stop) : Type 0 where
@@ -27,12 +20,17 @@ pub record AtStop (family : ℕ) (bs : List ℕ) (r : Stop) : Type 0 where
   pub whole : (r .size ≡ 0 → ⊥)
       → (head family (drop (r .at) bs) ≡ headOf (r .size) (readOne family (take (r .size) (drop (r .at) bs)))) × (settled family (drop (r .at) bs) ≡ r .size)
 
+-- Two counts of how far bytes reach are the same for a frame that starts here or further on: it has at least six bytes, and
+-- what does not reach behind them makes no difference.
+abbrev pub SameFor : ℕ → ℕ → ℕ → Type 0
+SameFor at on far = max on (at + 6) ≡ max far (at + 6)
+
 -- A walk from a place on: the starts that it has passed are bad, and how far the bytes reach that settled them is counted on.
 pub record Walks (family : ℕ) (bs : List ℕ) (from far at on : ℕ) : Type 0 where
   pub ahead : from ≤ at
   pub within : from ≤ length bs → at ≤ length bs
   pub passes : (j : ℕ) → from ≤ j → j < at → head family (drop j bs) ≡ bad
-  pub reaches : far ≡ reach family from bs → on ≡ reach family at bs
+  pub reaches : SameFor from far (reach family from bs) → SameFor at on (reach family at bs)
 
 -- the first stop from a place on
 pub record Stops (family : ℕ) (bs : List ℕ) (from far : ℕ) (r : Stop) : Type 0 where
@@ -43,7 +41,7 @@ pub record Stops (family : ℕ) (bs : List ℕ) (from far : ℕ) (r : Stop) : Ty
 unfoldable pub soughtIn : ℕ → List ℕ → SoughtType.Sought
 soughtIn family bs =
     byLook (look (head family) bs)
-    (λ k n f behind. Ready (record { start = k; length = n; reach = reach family k bs; frame = f }))
+    (λ k n f behind. Ready (record { start = k; length = n; reach = reach family (suc k) bs; frame = f }))
     (λ k rest. Waiting k)
 
 -- the first good frame from a place on, at close

@@ -11,11 +11,13 @@ use spe_tests::is_command;
 use starts::mark_of;
 ghost use mathlib.Core.Path.{_≡_};
 ghost use mathlib.Core.Bool.{true, false};
+ghost use Prim.Native.Nat.{_≤_, _<_};
+ghost use lib.ListN.{length, getD};
 ghost use Rattle.rules.specs.Answers.{isGood, readOne};
-ghost use Rattle.seek.specs.Sought.{firstOf, soughtIn, firstFrom, Stops};
+ghost use Rattle.seek.specs.Sought.{soughtIn, firstFrom, Stops};
 
 // A good frame whose earlier starts are all bad: its place, its length, how far the bytes reach that
-// settled those, and what it says.
+// settled it and those, and what it says.
 pub struct Hit {
     pub start: usize,
     pub length: usize,
@@ -33,16 +35,6 @@ pub enum Sought {
 pub enum First {
     At(usize, usize, Frame),
     Nothing,
-}
-
-// The byte that every frame of a family starts with.
-fn first_of(family: u8) -> u8
-    ensures { λ r. ⌜ r ≡ firstOf family ⌝ }
-{
-    if family == 2 {
-        return b'$';
-    }
-    mark_of(family)
 }
 
 // True only of bytes that are no good frame: of an SPE family an end that is not a report's, or a code that
@@ -63,25 +55,46 @@ fn ruled_out(family: u8, s: &[u8]) -> bool
 }
 
 // A start that is not passed over: its place, the size of the frame that may stand there, and how far the
-// bytes reach that settled the starts before it. The size is 0 where the start is undecided, or the bytes end.
+// bytes reach that settled the starts before it, as far as that is behind such a frame. The size is 0 where
+// the start is undecided, or the bytes end.
 struct Stop {
     at: usize,
     size: usize,
     reach: usize,
 }
 
-// The first start from a place on that is undecided, or of which the reader of one frame has to decide. (Only
-// numbers go in and come back, so that nothing is copied; the caller reads the frame.)
-fn next_stop(family: u8, s: &[u8], from: usize, far: usize) -> Stop
+// Whether a mark stands where the count of a start would.
+fn mark_for_count(mark: u8, start: &[u8]) -> bool
+    ensures { λ r. ⌜ (r ≡ true → (4 ≤ length (now (start .entry))) × (getD (now (start .entry)) 3 0 ≡ mark)) ⌝ }
+    ensures { λ r. ⌜ (r ≡ false → 4 ≤ length (now (start .entry)) → getD (now (start .entry)) 3 0 ≡ mark → ⊥) ⌝ }
+{
+    if start.len() < 4 {
+        return false;
+    }
+    start[3] == mark
+}
+
+// How many starts are passed over with a bad one that has so many bytes and no mark for its count: no frame
+// starts at that byte or at the two before it.
+fn starts_with(left: usize) -> usize
+    ensures { λ r. ⌜ (4 ≤ left → r ≡ 4) × (left < 4 → r ≡ 1) ⌝ }
+{
+    if 4 <= left {
+        return 4;
+    }
+    1
+}
+
+// The first stop from a place on, of packets and reports. No count is a mark.
+fn packet_stop(family: u8, s: &[u8], from: usize, far: usize) -> Stop
+    requires { ⌜ (family ≡ 2 → ⊥) ⌝ }
     ensures { λ r. ⌜ Stops family (now (s .entry)) from far r ⌝ }
 {
-    let first = first_of(family);
+    let mark = mark_of(family);
     let mut at = from;
     let mut reach = far;
     while at < s.len() {
-        // most starts are bad by their first byte
-        if s[at] != first {
-            reach = further(reach, at + 1);
+        if mark_for_count(mark, &s[at..]) {
             at += 1;
             continue;
         }
@@ -91,17 +104,61 @@ fn next_stop(family: u8, s: &[u8], from: usize, far: usize) -> Stop
                     return Stop { at, size, reach };
                 }
                 reach = further(reach, at + size);
-                at += 1;
+                at += 4;
                 continue;
             }
             Seen::Undecided => return Stop { at, size: 0, reach },
-            Seen::Bad(d) => {
-                reach = further(reach, at + d);
-            }
+            Seen::Bad(_) => {}
         }
-        at += 1; // one byte further, however many settled it
+        at += starts_with(s.len() - at);
     }
     Stop { at, size: 0, reach }
+}
+
+// The same of sentences. Up to the byte that settled a bad one there is no other `$`; and no start reaches
+// behind a later frame.
+fn sentence_stop(s: &[u8], from: usize, far: usize) -> Stop
+    ensures { λ r. ⌜ Stops 2 (now (s .entry)) from far r ⌝ }
+{
+    let mut at = from;
+    while at < s.len() {
+        // most starts are bad by their first byte
+        if s[at] != b'$' {
+            at += 1;
+            continue;
+        }
+        match examine(2, &s[at..]) {
+            Seen::Whole(size) => return Stop {
+                at,
+                size,
+                reach: far,
+            },
+            Seen::Undecided => return Stop {
+                at,
+                size: 0,
+                reach: far,
+            },
+            Seen::Bad(d) => {
+                at += d - 1;
+            }
+        }
+    }
+    Stop {
+        at,
+        size: 0,
+        reach: far,
+    }
+}
+
+// The first start from a place on that is undecided, or of which the reader of one frame has to decide. (Only
+// numbers go in and come back, so that nothing is copied; the caller reads the frame.)
+fn next_stop(family: u8, s: &[u8], from: usize, far: usize) -> Stop
+    ensures { λ r. ⌜ Stops family (now (s .entry)) from far r ⌝ }
+{
+    if family == 2 {
+        return sentence_stop(s, from, far);
+    }
+    packet_stop(family, s, from, far)
 }
 
 // The first start that is not bad.
@@ -116,7 +173,7 @@ pub fn seek(family: u8, s: &[u8]) -> Sought
             return Sought::Ready(Hit {
                 start: at,
                 length: size,
-                reach: stop.reach,
+                reach: further(stop.reach, at + size),
                 frame,
             });
         }

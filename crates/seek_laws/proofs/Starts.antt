@@ -22,6 +22,9 @@ BadBefore h bs k = (j : ℕ) → j < k → h (drop j bs) ≡ bad
 abbrev pub NotGood : Head → Type 0
 NotGood x = (n : ℕ) (f : Frame) → x ≡ good n f → ⊥
 
+pub bad-not-good : {h : Head} → h ≡ bad → NotGood h
+bad-not-good e n f g = let z : _≡_ {A = ℕ} 0 1 = cc in omega arith
+
 abbrev pub NoneGoodBefore : (List ℕ → Head) → List ℕ → ℕ → Type 0
 NoneGoodBefore h bs k = (j : ℕ) → j < k → NotGood (h (drop j bs))
 

@@ -45,3 +45,6 @@ fills-both held piece room =
 
 pub fills-behind : (held piece : List ℕ) → length held + length piece ≤ 133 → laid (length held) piece (filled held) ≡ filled (held ++ piece)
 fills-behind held piece room = ap (laid (length held) piece) (sym (fills held (omega arith))) ∙ fills-both held piece room
+
+pub all-places : (bs : List ℕ) → length bs ≤ 133 → length (filled bs) ≡ 133
+all-places bs few = omega (arith, length-append bs (zeros (133 - length bs)), length-zeros (133 - length bs))

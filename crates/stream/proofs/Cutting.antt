@@ -6,14 +6,13 @@ use mathlib.Core.Path.{_≡_, refl, sym, ap, _∙_}
 use mathlib.Core.List.{List, _++_}
 use native.Mathlib.Omega.{arith}
 use lib.ListN.{length, take, drop, length-take, length-drop, take-append-drop}
-use lib.Seq.{take-all, length-take-le}
+use lib.Seq.{length-take-le}
 use Rattle.rules.specs.Bytes.{part}
 use Rattle.stream_rules.specs.Heads.{longest, head}
 use Rattle.stream_rules.specs.Rule.{Look, ready, waiting, look, byLook, wants}
-use Rattle.stream_rules.specs.Settled.{settled, reach}
-use Rattle.head_laws.proofs.Heads.{GoodHead, good-head}
+use Rattle.stream_rules.specs.Settled.{reach}
 use Rattle.head_laws.proofs.Lists.{whole-rest}
-use Rattle.stream_laws.proofs.Looks.{FrameFirst, OpenFirst, look-ready, look-waiting}
+use Rattle.stream_laws.proofs.Looks.{OpenFirst, look-waiting}
 use Rattle.seek_laws.proofs.Families.{facts}
 use Rattle.stream_laws.proofs.Calls.{wanted-call}
 use Rattle.seek_laws.proofs.Calls.{piece-keeps}
@@ -32,25 +31,25 @@ module _ (family : ℕ) (work : List ℕ) where
   waits at e = case (look (head family) work) refl e
     where
       case : (l : Look) → look (head family) work ≡ l
-          → byLook l (λ k n f behind. Ready (record { start = k; length = n; reach = reach family k work; frame = f })) (λ k rest. Waiting k) ≡ Waiting at
+          → byLook l (λ k n f behind. Ready (record { start = k; length = n; reach = reach family (suc k) work; frame = f })) (λ k rest. Waiting k) ≡ Waiting at
           → (rest : List ℕ) × (look (head family) work ≡ waiting at rest)
       case (waiting k rest) is q = let same : k ≡ at = cc in (rest, is ∙ ap (λ (j : ℕ). waiting j rest) same)
       case (ready k n f behind) is q = let z : _≡_ {A = ℕ} 0 1 = cc in absurd (omega arith)
 
   pub finds : (hit : Hit) → soughtIn family work ≡ Ready hit
-      → (behind : List ℕ) × (look (head family) work ≡ ready (hit .start) (hit .length) (hit .frame) behind) × (hit .reach ≡ reach family (hit .start) work)
+      → (behind : List ℕ) × (look (head family) work ≡ ready (hit .start) (hit .length) (hit .frame) behind) × (hit .reach ≡ reach family (suc (hit .start)) work)
   unfolding soughtIn
   finds hit e = case (look (head family) work) refl e
     where
       case : (l : Look) → look (head family) work ≡ l
-          → byLook l (λ k n f behind. Ready (record { start = k; length = n; reach = reach family k work; frame = f })) (λ k rest. Waiting k) ≡ Ready hit
-          → (behind : List ℕ) × (look (head family) work ≡ ready (hit .start) (hit .length) (hit .frame) behind) × (hit .reach ≡ reach family (hit .start) work)
+          → byLook l (λ k n f behind. Ready (record { start = k; length = n; reach = reach family (suc k) work; frame = f })) (λ k rest. Waiting k) ≡ Ready hit
+          → (behind : List ℕ) × (look (head family) work ≡ ready (hit .start) (hit .length) (hit .frame) behind) × (hit .reach ≡ reach family (suc (hit .start)) work)
       case (waiting k rest) is q = let z : _≡_ {A = ℕ} 0 1 = cc in absurd (omega arith)
       case (ready k n f behind) is q =
-          let same : record { start = k; length = n; reach = reach family k work; frame = f } ≡ hit = cc in (
+          let same : record { start = k; length = n; reach = reach family (suc k) work; frame = f } ≡ hit = cc in (
             behind,
             is ∙ (λ i. ready (same i .start) (same i .length) (same i .frame) behind),
-            sym (ap (λ (x : Hit). x .reach) same) ∙ ap (λ (x : Hit). reach family (x .start) work) same,
+            sym (ap (λ (x : Hit). x .reach) same) ∙ ap (λ (x : Hit). reach family (suc (x .start)) work) same,
           )
 
 module _ (family : ℕ) (work : List ℕ) (count t s : ℕ) (there : count ≤ length work) (few : count < longest family) where
@@ -76,23 +75,19 @@ module _ (family : ℕ) (work : List ℕ) (count t s : ℕ) (there : count ≤ l
         short = omega (arith, short, ap length (open-start .rest), length-drop at work);
       }
 
-  pub cut-ready : (hit : Hit) (to : ℕ) → soughtIn family work ≡ Ready hit → to ≡ max (max (hit .reach) (hit .start + hit .length)) count
+  pub cut-ready : (hit : Hit) (to : ℕ) → soughtIn family work ≡ Ready hit → to ≡ max (hit .reach) count
       → Cuts family work count t s (record {
         step = StepReady (record { taken = t + (to - count); skipped = s + hit .start; length = hit .length; frame = hit .frame });
         from = hit .start + hit .length;
         to = to;
       })
-  unfolding reach
   cut-ready hit to e up =
       let k = hit .start in
       let n = hit .length in
       let f = hit .frame in
       let found = finds family work hit e in
-      let first : FrameFirst (head family) work k n f (found .0) = look-ready (head family) work k n f (found .0) (found .1) in
-      let whole : GoodHead family (drop k work) n f = good-head family (drop k work) n f (first .here) in
       let here : look (head family) (take count work ++ drop count work) ≡ ready k n f (found .0) = ap (look (head family)) both ∙ found .1 in
-      let reaches : reach family (suc k) (take count work ++ drop count work) ≡ max (reach family k work) (k + n) =
-      ap (λ (l : List ℕ). max (reach family k l) (k + settled family (drop k l))) both ∙ ap (λ (d : ℕ). max (reach family k work) (k + d)) (whole .settles) in
+      let reaches : reach family (suc k) (take count work ++ drop count work) ≡ reach family (suc k) work = ap (reach family (suc k)) both in
       let up-to : to ≡ upTo family (take count work) (drop count work) k = omega (arith, up, found .2, reaches, size) in
       let j : Jump family (take count work) (drop count work) k n f to = jump family (take count work) (drop count work) k n f (found .0) here to up-to in
       let there-is : length (take count work ++ drop count work) ≡ length work = ap length both in
@@ -116,9 +111,3 @@ turns family work count t s c kept cuts k =
       held = (k ∙ ap filled (cuts .keeps)) i;
       count = (size ∙ ap length (cuts .keeps)) i;
     }
-
--- As much as there is can be cut from the front only.
-pub cut-whole : (from to : ℕ) (work : List ℕ) → from ≤ to → to ≤ length work → to - from ≡ length work → part from (to - from) work ≡ work
-cut-whole from to work order within all =
-    let front : from ≡ 0 = omega arith in
-    ap (λ (j : ℕ). take (to - from) (drop j work)) front ∙ take-all (to - from) work (omega arith)

@@ -2,17 +2,23 @@
 // comes back by value, or in its parts with the held places lent; on a refusal it is as it was.
 mod pieces;
 
+use leaves::further;
 use leaves::is_family;
 use leaves::text;
+use pens::put_bytes;
 use pieces::Got;
 use pieces::Next;
 use pieces::Step;
 use pieces::advance;
+use pieces::clear_from;
 use pieces::keep;
+use pieces::keep_part;
 use pieces::longest_frame;
 use pieces::size;
 use seek::First;
+use seek::Sought;
 use seek::first_good;
+use seek::seek;
 use std::num::wrapping_add_u32;
 use stream_rules::Answer;
 use stream_rules::Fed;
@@ -22,13 +28,13 @@ use stream_rules::Ready;
 use stream_rules::Turned;
 ghost use mathlib.Core.Path.{_≡_};
 ghost use mathlib.Core.List.{[]};
-ghost use Prim.Native.Nat.{_%_, _^_, _≤_, _<_};
+ghost use Prim.Native.Nat.{_+_, _%_, _^_, _≤_, _<_};
 ghost use lib.ListN.{length};
 ghost use Rattle.stream_rules.specs.Heads.{longest};
 ghost use Rattle.stream_rules.specs.Streams.{holding, Feeds, Shuts, Makes};
 ghost use Rattle.stream_rules.specs.declared.Answer.the-variants.{Refused};
 ghost use Rattle.stream.specs.Places.{FeedsPlaces};
-ghost use Rattle.stream.specs.Turns.{StepFits, handedOut, movedBy, doneBy, Drains};
+ghost use Rattle.stream.specs.Turns.{StepFits, handedOut, movedBy, Takes, doneBy, Drains};
 
 // What a call leaves of a reader beside its held places, and what it answered.
 pub struct Moved {
@@ -82,6 +88,48 @@ fn answered(at: u32, skipped: u32, next: Next) -> Moved
             skipped: wrapping_add_u32(skipped, low(passed)),
             answer: Answer::More(taken),
         },
+    }
+}
+
+// A call on few bytes, for which the places have room behind the held ones. They stay as they stand there
+// while nothing is decided. (Each way out makes its own answer: one that is made for both is copied.)
+fn take_few(
+    family: u8,
+    held: &mut [u8; 133],
+    count: usize,
+    at: u32,
+    skipped: u32,
+    few: &[u8],
+) -> Moved
+    requires { ⌜ (count < longest family) × (count + length (now few) ≤ 133) × (length (now held) ≡ 133) ⌝ }
+    ensures { λ m. ⌜ Takes family (now (held .entry)) count at skipped (now (few .entry)) (now (held .exit)) m ⌝ }
+{
+    clear_from(held, count);
+    put_bytes(held, count, few);
+    let all = count + few.len();
+    match seek(family, text(held, 0, all)) {
+        Sought::Waiting(from) => {
+            let left = all - from;
+            keep_part(held, all, from, left);
+            let step = Step::Waiting(few.len(), from);
+            answered(at, skipped, Next { step, count: left })
+        }
+        Sought::Ready(hit) => {
+            let frame = hit.frame;
+            let behind = hit.start + hit.length;
+            let to = further(hit.reach, count);
+            let left = to - behind;
+            let taken = to - count;
+            keep_part(held, all, behind, left);
+            let got = Got {
+                taken,
+                skipped: hit.start,
+                length: hit.length,
+                frame,
+            };
+            let step = Step::Ready(got);
+            answered(at, skipped, Next { step, count: left })
+        }
     }
 }
 
@@ -169,6 +217,9 @@ pub fn feed_places(
         return refused(count, at, skipped, 6);
     }
     if closed == 0 {
+        if offered.len() <= 133 - used {
+            return take_few(family, held, used, at, skipped, offered);
+        }
         return answered(at, skipped, advance(family, held, used, offered));
     }
     if offered.len() != 0 {

@@ -1,6 +1,5 @@
 // A call on all that is offered, which alters the held places where they stand. The bytes offered are searched
-// where they stand too, as a whole; only what is held is joined first, in its places or in a buffer, with
-// the next of them.
+// where they stand too, as a whole; only what is held is joined first, in a buffer, with the next of them.
 use leaves::further;
 use leaves::text;
 use pens::put_bytes;
@@ -73,8 +72,21 @@ pub(crate) fn keep(s: &[u8], a: usize, n: usize) -> [u8; 133]
     held
 }
 
+// Keeps a part of what stands in the places, which have zeros behind it. All of it stays where it is.
+pub(crate) fn keep_part(places: &mut [u8; 133], all: usize, a: usize, n: usize)
+    requires { ⌜ (a + n ≤ all) × (all ≤ 133) × (length (now places) ≡ 133) ⌝ }
+    requires { ⌜ now places ≡ filled (take all (now places)) ⌝ }
+    ensures { λ _. ⌜ now (places .exit) ≡ filled (part a n (take all (now (places .entry)))) ⌝ }
+{
+    if n == all {
+        return;
+    }
+    let kept = keep(text(places, 0, all), a, n);
+    *places = kept;
+}
+
 // Zeros in the held places from one of them on.
-fn clear_from(places: &mut [u8; 133], from: usize)
+pub(crate) fn clear_from(places: &mut [u8; 133], from: usize)
     requires { ⌜ (from ≤ 133) × (length (now places) ≡ 133) ⌝ }
     ensures { λ _. ⌜ now (places .exit) ≡ filled (take from (now (places .entry))) ⌝ }
 {
@@ -100,7 +112,7 @@ fn search(family: u8, work: &[u8], count: usize, taken: usize, skipped: usize) -
         Sought::Ready(hit) => {
             let frame = hit.frame;
             let behind = hit.start + hit.length;
-            let to = further(further(hit.reach, behind), count);
+            let to = further(hit.reach, count);
             let got = Got {
                 taken: taken + (to - count),
                 skipped: skipped + hit.start,
@@ -151,26 +163,6 @@ fn take_piece(family: u8, held: &mut [u8; 133], count: usize, piece: &[u8]) -> N
     turn_of(family, bytes, count, 0, 0, held)
 }
 
-// A call on few bytes, for which the places have room behind the held ones. They stay as they stand there
-// while nothing is decided.
-fn take_few(family: u8, held: &mut [u8; 133], count: usize, few: &[u8]) -> Next
-    requires { ⌜ (count < longest family) × (count + length (now few) ≤ 133) ⌝ }
-    requires { ⌜ length (now held) ≡ 133 ⌝ }
-    ensures { λ r. ⌜ turnWith r (now (held .exit)) ≡ turned (call (head family) (take count (now (held .entry))) (now (few .entry))) ⌝ }
-{
-    clear_from(held, count);
-    put_bytes(held, count, few);
-    let all = count + few.len();
-    let c = search(family, text(held, 0, all), count, 0, 0);
-    let step = c.step;
-    let left = c.to - c.from;
-    if left != all {
-        let kept = keep(text(held, 0, all), c.from, left);
-        *held = kept;
-    }
-    Next { step, count: left }
-}
-
 // A call on all that is offered. Where a whole piece with the held bytes leaves no frame, what is kept
 // is no longer than the piece, so it is the piece's last bytes, and the call goes on from there.
 pub(crate) fn advance(family: u8, held: &mut [u8; 133], count: usize, offered: &[u8]) -> Next
@@ -180,9 +172,6 @@ pub(crate) fn advance(family: u8, held: &mut [u8; 133], count: usize, offered: &
 {
     if count == 0 {
         return turn_of(family, offered, 0, 0, 0, held);
-    }
-    if offered.len() <= 133 - count {
-        return take_few(family, held, count, offered);
     }
     let next = take_piece(family, held, count, text(offered, 0, 133));
     if offered.len() <= 133 {

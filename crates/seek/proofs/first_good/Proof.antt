@@ -14,7 +14,7 @@ use Rattle.rules.specs.declared.Frame.{Frame}
 use Rattle.stream_rules.specs.Heads.{Head, wait, bad, good, headOf, head}
 use Rattle.stream_rules.specs.Rule.{Look, byLook}
 use Rattle.seek_laws.proofs.Families.{facts}
-use Rattle.seek_laws.proofs.Starts.{NotGood}
+use Rattle.seek_laws.proofs.Starts.{NotGood, bad-not-good}
 use Rattle.seek_laws.proofs.Walks.{Passed, nothing-passed, passes, first-good, none-left}
 use Rattle.seek.specs.Sought.{firstFrom, AtStop, Stops}
 use Rattle.seek.proofs.Stopping.{part-there, whole-there}
@@ -28,10 +28,7 @@ use Rattle.seek.proofs.first_good.Tie as tie
 abbrev answer : ℕ → Look → First
 answer from l = byLook l (λ k n f behind. At (from + k) n f) (λ k rest. Nothing)
 
--- an undecided start is not good, nor a bad one
-bad-not-good : {h : Head} → h ≡ bad → NotGood h
-bad-not-good e n f g = let z : _≡_ {A = ℕ} 0 1 = cc in omega arith
-
+-- an undecided start is not good
 wait-not-good : {h : Head} → h ≡ wait → NotGood h
 wait-not-good e n f g = let z : _≡_ {A = ℕ} 0 1 = cc in omega arith
 

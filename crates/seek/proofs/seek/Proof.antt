@@ -1,7 +1,7 @@
 -- `seek::seek` meets its contract. The loop's invariant: the walk from the first start on has come to the stop. The measure is
 -- what is left of the bytes.
 -- Assumes nothing.
-use Prim.Native.Nat.{ℕ, max, _+_, _-_, _≤_, _<_}
+use Prim.Native.Nat.{ℕ, suc, max, _+_, _-_, _≤_, _<_}
 use mathlib.Core.Path.{_≡_, refl, sym, ap, subst, _∙_}
 use mathlib.Core.List.{List}
 use native.Mathlib.Decide.{decLt}
@@ -13,9 +13,11 @@ use Rattle.rules.specs.declared.Frame.{Frame}
 use Rattle.stream_rules.specs.Heads.{bad, good, headOf, head}
 use Rattle.stream_rules.specs.Rule.{Look, byLook}
 use Rattle.stream_rules.specs.Settled.{reach}
+use Rattle.head_laws.proofs.Heads.{GoodHead, good-head}
+use Rattle.heads.proofs.Starts.{at-least-six}
 use Rattle.seek_laws.proofs.Families.{facts}
 use Rattle.seek_laws.proofs.Starts.{BadBefore, look-at-good, look-at-wait, look-at-end}
-use Rattle.seek.specs.Sought.{soughtIn, Stops}
+use Rattle.seek.specs.Sought.{SameFor, soughtIn, Stops}
 use Rattle.seek.proofs.Stopping.{part-there, goes-on, followed, whole-there, refused-whole}
 use Rattle.seek.specs.declared.Sought.{Sought}
 use Rattle.seek.specs.declared.Sought.the-variants.{Ready, Waiting}
@@ -26,25 +28,29 @@ use Rattle.seek.proofs.seek.Tie as tie
 -- what a look at the bytes says, as an answer
 abbrev answer : ℕ → List ℕ → Look → Sought
 answer family s l =
-    byLook l (λ k n f behind. Ready (record { start = k; length = n; reach = reach family k s; frame = f })) (λ k rest. Waiting k)
+    byLook l (λ k n f behind. Ready (record { start = k; length = n; reach = reach family (suc k) s; frame = f })) (λ k rest. Waiting k)
 
 module _ (family : ℕ) (s : List ℕ) (p : Stop) (stops : Stops family s 0 0 p) where
-  -- the starts before the stop are bad, and what settled them is counted
+  -- the starts before the stop are bad
   before : BadBefore (head family) s (p .at)
   before j low = stops .walks .passes j (omega arith) low
-
-  counted : p .reach ≡ reach family (p .at) s
-  unfolding reach
-  counted = stops .walks .reaches refl
 
   within : p .at ≤ length s
   within = stops .walks .within (omega arith)
 
-  ready : (f : Frame) → head family (drop (p .at) s) ≡ good (p .size) f
-      → Ready (record { start = p .at; length = p .size; reach = p .reach; frame = f }) ≡ soughtIn family s
+  -- how far the bytes reach that settled them and a frame there
+  counted : (f : Frame) → GoodHead family (drop (p .at) s) (p .size) f → max (p .reach) (p .at + p .size) ≡ reach family (suc (p .at)) s
+  unfolding reach
+  counted f g =
+      let same : SameFor (p .at) (p .reach) (reach family (p .at) s) = stops .walks .reaches refl in
+      let six = at-least-six family (drop (p .at) s) (omega (arith, g .some, g .declared)) in
+      omega (arith, same, six, g .declared, g .settles)
+
+  ready : (f : Frame) (r : ℕ) → head family (drop (p .at) s) ≡ good (p .size) f → r ≡ max (p .reach) (p .at + p .size)
+      → Ready (record { start = p .at; length = p .size; reach = r; frame = f }) ≡ soughtIn family s
   unfolding soughtIn
-  ready f here =
-      ap (λ (r : ℕ). Ready (record { start = p .at; length = p .size; reach = r; frame = f })) counted
+  ready f r here is =
+      ap (λ (n : ℕ). Ready (record { start = p .at; length = p .size; reach = n; frame = f })) (is ∙ counted f (good-head family (drop (p .at) s) (p .size) f here))
       ∙ ap (answer family s) (sym (look-at-good (facts family) s (p .at) (p .size) f before here))
 
   -- an undecided start, or the end
@@ -111,12 +117,19 @@ read-frame-requires c κs = search needs
 enum-known-frame : tie.Need-enum-known-frame Inv-loop μ-loop
 enum-known-frame c = search needs
 
+add-further : tie.Need-add-further Inv-loop μ-loop
+add-further c = omega (arith, there (c .before .before .before .before .before))
+
+further-requires : tie.Need-further-requires Inv-loop μ-loop
+further-requires c κs = search needs
+
 returns : tie.Need-returns Inv-loop μ-loop
 returns c =
-    let loop = c .before .before .before .before .before .before .before .loop in
-    let a = c .before .before .before .before .before .before .before .before .before .before .args in
-    ready (a .family) (a .s .now) (loop .stop) (loop .inv) _
-    (loop .inv .found .whole (c .before .before .before .before .before .if1 .taken) .0 ∙ ap (headOf (loop .stop .size)) (sym (was-read (c .before .before .before)) ∙ c .before .frame .given .1))
+    let loop = c .before .before .before .before .before .before .before .before .loop in
+    let a = c .before .before .before .before .before .before .before .before .before .before .before .args in
+    ready (a .family) (a .s .now) (loop .stop) (loop .inv) _ _
+    (loop .inv .found .whole (c .before .before .before .before .before .before .if1 .taken) .0 ∙ ap (headOf (loop .stop .size)) (sym (was-read (c .before .before .before .before)) ∙ c .before .before .frame .given .1))
+    (c .further .ensures)
 
 enum-told : tie.Need-enum-told Inv-loop μ-loop
 enum-told c = search needs
@@ -124,11 +137,11 @@ enum-told c = search needs
 add-next-stop : tie.Need-add-next-stop Inv-loop μ-loop
 add-next-stop c = omega (arith, there (c .before .before .before .before))
 
-add-further : tie.Need-add-further Inv-loop μ-loop
-add-further c = omega (arith, there (c .before .before .before .before))
+add-further-2 : tie.Need-add-further-2 Inv-loop μ-loop
+add-further-2 c = omega (arith, there (c .before .before .before .before))
 
-further-requires : tie.Need-further-requires Inv-loop μ-loop
-further-requires c κs = search needs
+further-requires-2 : tie.Need-further-requires-2 Inv-loop μ-loop
+further-requires-2 c κs = search needs
 
 next-stop-requires-2 : tie.Need-next-stop-requires-2 Inv-loop μ-loop
 next-stop-requires-2 c κs = search needs
@@ -142,7 +155,7 @@ loop-again c =
     let a = c .before .before .before .before .before .before .before .before .before .before .before .args in
     onward (a .family) (a .s .now) (loop .stop) (loop .inv) (c .before .before .before .before .before .before .if1 .taken)
     (ap (headOf (loop .stop .size)) (sym (was-read (c .before .before .before .before)) ∙ c .before .before .enum-told .given .1))
-    _ (c .before .further .ensures) _ (c .next-stop2 .ensures)
+    _ (c .before .further2 .ensures) _ (c .next-stop2 .ensures)
 
 returns-2 : tie.Need-returns-2 Inv-loop μ-loop
 returns-2 c = waiting (c .before .before .before .before .before .args .family) (c .before .before .before .before .before .args .s .now) (c .before .before .loop .stop) (c .before .before .loop .inv) (c .if1 .left)
@@ -161,11 +174,13 @@ seek-spec =
     part-read-frame-end
     read-frame-requires
     enum-known-frame
+    add-further
+    further-requires
     returns
     enum-told
     add-next-stop
-    add-further
-    further-requires
+    add-further-2
+    further-requires-2
     next-stop-requires-2
     loop-less
     loop-again

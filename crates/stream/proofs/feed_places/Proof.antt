@@ -1,10 +1,10 @@
 -- `stream::feed_places` meets its contract: its tests are the refusals, in their order; behind them a turn is the call, and a drain the
 -- look at close. That the test of the places fails is what the contract takes for granted.
 -- Assumes nothing.
-use Prim.Native.Nat.{_≤_, _<_}
+use Prim.Native.Nat.{ℕ, _≤_, _<_}
 use mathlib.Core.Path.{_≡_, sym, ap, subst, _∙_}
 use mathlib.Core.Bool.{true}
-use mathlib.Core.List.{[]}
+use mathlib.Core.List.{List, []}
 use native.Mathlib.Omega.{arith}
 use borrow.Author.Needs.{needs}
 use borrow.Author.Tests.{not-true, not-false}
@@ -19,7 +19,7 @@ use Rattle.stream_laws.proofs.States.{longest-fits, refused-1, refused-6, refus
 use Rattle.stream_laws.proofs.Saying.{feeds}
 use Rattle.seek_laws.proofs.Families.{facts}
 use Rattle.stream.specs.Places.{readerAt, fedAt}
-use Rattle.stream.specs.Turns.{Turn, StepFits}
+use Rattle.stream.specs.Turns.{Turn, turned, StepFits, movedStep}
 use Rattle.stream.proofs.Counts.{fedBy, by-call}
 use Rattle.stream.proofs.Closing.{turn-fits}
 use Rattle.stream.proofs.feed_places.Statement.{statement}
@@ -78,43 +78,61 @@ returns-3 c = λ long.
     feeds (ap (fedAt (a .family) (a .closed) (a .held .now)) (c .refused3 .ensures)
     ∙ sym (refused-6 (reader (c .before .before .before .before .before .before .before .before .before .before)) (a .offered .now) (a-family (c .before .before .before)) (omega (arith, c .before .if3 .taken, c .before .before .longest-frame .ensures, top-above (head (a .family)) _ (facts (a .family))))))
 
-advance-requires : tie.Need-advance-requires
-advance-requires c κs =
-    let family = c .before .before .before .before .before .before .before .before .before .before .before .args .family in
-    ((few (c .before .before), omega (arith, few (c .before .before), longest-fits family)), places (c .before .before .before .before .before .before))
+sub-if5 : tie.Need-sub-if5
+sub-if5 c = omega (arith, few (c .before), longest-fits (c .before .before .before .before .before .before .before .before .before .before .args .family))
 
-answered-requires : tie.Need-answered-requires
-answered-requires c κs =
-    let start = c .before .before .before .before .before .before .before .before .before .before .before .before in
-    subst (λ (t : Turn). (t .count ≤ 133) × StepFits (t .step)) (sym (c .advance .ensures))
-    (turn-fits (start .args .family) (take (start .args .count) (start .args .held .now)) (start .args .offered .now) (held-few (c .before .before .before)) (omega (arith, start .good)))
+take-few-requires : tie.Need-take-few-requires
+take-few-requires c κs =
+    let a = c .before .before .before .before .before .before .before .before .before .before .before .before .args in
+    (few (c .before .before .before), omega (arith, c .before .if5 .taken, few (c .before .before .before), longest-fits (a .family)), places (c .before .before .before .before .before .before .before))
 
 returns-4 : tie.Need-returns-4
 returns-4 c = λ long.
     let a = c .before .before .before .before .before .before .before .before .before .before .before .before .before .args in
     let r = reader (c .before .before .before .before .before .before .before .before .before .before .before .before .before) in
+    let turn = turned (call (head (a .family)) (take (a .count) (a .held .now)) (a .offered .now)) in
+    feeds (ap (fedAt (a .family) (a .closed) (c .take-few .last .1 .0)) (c .take-few .ensures .0)
+    ∙ ap (λ (left : List ℕ). fedAt (a .family) (a .closed) left (movedStep (a .at) (a .skipped) (turn .count) (turn .step))) (c .take-few .ensures .1)
+    ∙ by-call r (call (head (a .family)) (take (a .count) (a .held .now)) (a .offered .now))
+    ∙ sym (open-call r (a .offered .now) (a-family (c .before .before .before .before .before .before)) (room (c .before .before .before .before)) (c .before .before .before .if4 .taken)))
+
+advance-requires : tie.Need-advance-requires
+advance-requires c κs =
+    let family = c .before .before .before .before .before .before .before .before .before .before .before .before .args .family in
+    ((few (c .before .before .before), omega (arith, few (c .before .before .before), longest-fits family)), places (c .before .before .before .before .before .before .before))
+
+answered-requires : tie.Need-answered-requires
+answered-requires c κs =
+    let start = c .before .before .before .before .before .before .before .before .before .before .before .before .before in
+    subst (λ (t : Turn). (t .count ≤ 133) × StepFits (t .step)) (sym (c .advance .ensures))
+    (turn-fits (start .args .family) (take (start .args .count) (start .args .held .now)) (start .args .offered .now) (held-few (c .before .before .before .before)) (omega (arith, start .good)))
+
+returns-5 : tie.Need-returns-5
+returns-5 c = λ long.
+    let a = c .before .before .before .before .before .before .before .before .before .before .before .before .before .before .args in
+    let r = reader (c .before .before .before .before .before .before .before .before .before .before .before .before .before .before) in
     feeds (ap (fedAt (a .family) (a .closed) (c .before .advance .last .1 .0)) (c .answered .ensures)
     ∙ ap (fedBy r) (c .before .advance .ensures)
     ∙ by-call r (call (head (a .family)) (take (a .count) (a .held .now)) (a .offered .now))
-    ∙ sym (open-call r (a .offered .now) (a-family (c .before .before .before .before .before .before)) (room (c .before .before .before .before)) (c .before .before .before .if4 .taken)))
+    ∙ sym (open-call r (a .offered .now) (a-family (c .before .before .before .before .before .before .before)) (room (c .before .before .before .before .before)) (c .before .before .before .before .if4 .taken)))
 
 refused-requires-4 : tie.Need-refused-requires-4
 refused-requires-4 c κs = search needs
 
-returns-5 : tie.Need-returns-5
-returns-5 c = λ long.
+returns-6 : tie.Need-returns-6
+returns-6 c = λ long.
     let a = c .before .before .before .before .before .before .before .before .before .before .before .before .args in
     feeds (ap (fedAt (a .family) (a .closed) (a .held .now)) (c .refused4 .ensures)
-    ∙ sym (refused-5 (reader (c .before .before .before .before .before .before .before .before .before .before .before .before)) (a .offered .now) (a-family (c .before .before .before .before .before)) (room (c .before .before .before)) (c .before .before .if4 .left) (c .before .if5 .taken)))
+    ∙ sym (refused-5 (reader (c .before .before .before .before .before .before .before .before .before .before .before .before)) (a .offered .now) (a-family (c .before .before .before .before .before)) (room (c .before .before .before)) (c .before .before .if4 .left) (c .before .if6 .taken)))
 
 drain-requires : tie.Need-drain-requires
 drain-requires c κs = search needs
 
-returns-6 : tie.Need-returns-6
-returns-6 c = λ long.
+returns-7 : tie.Need-returns-7
+returns-7 c = λ long.
     let a = c .before .before .before .before .before .before .before .before .before .before .before .before .before .args in
     let r = reader (c .before .before .before .before .before .before .before .before .before .before .before .before .before) in
-    let none : a .offered .now ≡ [] = drop-of-length-le (a .offered .now) {i = 0} (omega (arith, c .before .before .if5 .left)) in
+    let none : a .offered .now ≡ [] = drop-of-length-le (a .offered .now) {i = 0} (omega (arith, c .before .before .if6 .left)) in
     feeds (c .drain .ensures (a .closed)
     ∙ sym (closed-call r (a-family (c .before .before .before .before .before .before)) (room (c .before .before .before .before)) (c .before .before .before .if4 .left))
     ∙ ap (fed r) (sym none))
@@ -132,10 +150,13 @@ feed-places-spec =
     longest-frame-requires
     refused-requires-3
     returns-3
+    sub-if5
+    take-few-requires
+    returns-4
     advance-requires
     answered-requires
-    returns-4
-    refused-requires-4
     returns-5
+    refused-requires-4
+    returns-6
     drain-requires
-    returns-6)
+    returns-7)

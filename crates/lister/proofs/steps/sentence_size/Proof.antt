@@ -11,17 +11,12 @@ use lib.ListN.{length, take, drop, getD}
 use Rattle.rules.specs.Answers.{isGood, readOne}
 use Rattle.stream_rules.specs.Heads.{payloadRun, lengthAt, Head, bad, head}
 use Rattle.head_laws.proofs.Heads.{good-head}
-use Rattle.head_laws.proofs.SentenceStarts.{no-star}
-use Rattle.seek_laws.proofs.Starts.{NotGood}
+use Rattle.head_laws.proofs.SentenceStarts.{no-dollar, no-star}
+use Rattle.seek_laws.proofs.Starts.{NotGood, bad-not-good}
 use Rattle.frames.proofs.Families.{family2}
 use Rattle.lister.proofs.Sizes.{size-none, not-declared, size-good, size-refused}
-use Rattle.lister.proofs.Skips.{not-dollar}
 use Rattle.lister.proofs.steps.sentence_size.Statement.{statement}
 use Rattle.lister.proofs.steps.sentence_size.Tie as tie
-
--- a bad start is not good
-bad-not-good : {h : Head} → h ≡ bad → NotGood h
-bad-not-good e n f g = let z : _≡_ {A = ℕ} 0 1 = cc in omega arith
 
 module _ (bs : List ℕ) (n : ℕ) (counted : n ≡ min (length (payloadRun (drop 1 bs))) 129) where
   -- a longer payload than 128 bytes makes no frame
@@ -38,7 +33,7 @@ module _ (bs : List ℕ) (n : ℕ) (counted : n ≡ min (length (payloadRun (dro
         | yes dollar ↦
             let is-run : length (payloadRun (drop 1 bs)) ≡ n = omega (arith, counted, fits) in
             bad-not-good (no-star bs dollar n is-run fits (omega arith) other .0)
-        | no none ↦ not-dollar bs none
+        | no none ↦ bad-not-good (no-dollar bs (omega arith) none .0)
       ]
 
 -- whether so many bytes are a good frame

@@ -18,20 +18,20 @@ use Rattle.stream.proofs.pieces.advance.Statement.{statement}
 use Rattle.stream.proofs.pieces.advance.Tie as tie
 
 -- the turn of the piece
-piece : (c : tie.After-take-piece) → turnWith (c .take-piece .result) (c .take-piece .last .1 .0) ≡ turned (call (head (c .before .before .before .before .before .before .args .family)) (take (c .before .before .before .before .before .before .args .count) (c .before .before .before .before .before .before .args .held .now)) (take 133 (c .before .before .before .before .before .before .args .offered .now)))
+piece : (c : tie.After-take-piece) → turnWith (c .take-piece .result) (c .take-piece .last .1 .0) ≡ turned (call (head (c .before .before .before .before .before .args .family)) (take (c .before .before .before .before .before .args .count) (c .before .before .before .before .before .args .held .now)) (take 133 (c .before .before .before .before .before .args .offered .now)))
 piece c =
-    let a = c .before .before .before .before .before .before .args in
+    let a = c .before .before .before .before .before .args in
     c .take-piece .ensures ∙ ap (λ (l : List ℕ). turned (call (head (a .family)) (take (a .count) (a .held .now)) l)) (c .before .text .ensures .content)
 
 -- where it leaves no frame, how the call goes on
-next : (c : tie.After-step) → Goes (c .before .before .before .before .before .before .before .before .before .args .family) (take (c .before .before .before .before .before .before .before .before .before .args .count) (c .before .before .before .before .before .before .before .before .before .args .held .now)) (c .before .before .before .before .before .before .before .before .before .args .offered .now) (turnWith (c .before .before .before .take-piece .result) (c .before .before .before .take-piece .last .1 .0)) (c .step .given .0 .0) (c .step .given .0 .1 .0)
+next : (c : tie.After-step) → Goes (c .before .before .before .before .before .before .before .before .args .family) (take (c .before .before .before .before .before .before .before .before .args .count) (c .before .before .before .before .before .before .before .before .args .held .now)) (c .before .before .before .before .before .before .before .before .args .offered .now) (turnWith (c .before .before .before .take-piece .result) (c .before .before .before .take-piece .last .1 .0)) (c .step .given .0 .0) (c .step .given .0 .1 .0)
 next c =
-    let a = c .before .before .before .before .before .before .before .before .before .args in
-    waits-on (a .family) (take (a .count) (a .held .now)) (a .offered .now) (omega (arith, c .before .before .if3 .left)) _ _ _ (piece (c .before .before .before)) (c .step .given .1)
+    let a = c .before .before .before .before .before .before .before .before .args in
+    waits-on (a .family) (take (a .count) (a .held .now)) (a .offered .now) (omega (arith, c .before .before .if2 .left)) _ _ _ (piece (c .before .before .before)) (c .step .given .1)
 
 -- what was kept is no longer than the piece
 fits : (c : tie.After-known-told) → c .before .before .before .before .take-piece .result .count ≤ 133
-fits c = omega (arith, next (c .before) .short, longest-fits (c .before .before .before .before .before .before .before .before .before .before .args .family))
+fits c = omega (arith, next (c .before) .short, longest-fits (c .before .before .before .before .before .before .before .before .before .args .family))
 
 turn-of-requires : tie.Need-turn-of-requires
 turn-of-requires c κs = search needs
@@ -42,28 +42,19 @@ returns c =
     let none : take (a .count) (a .held .now) ≡ [] = ap (λ (n : ℕ). take n (a .held .now)) (c .before .before .if1 .taken) in
     c .turn-of .ensures ∙ ap (λ (l : List ℕ). turned (call (head (a .family)) l (a .offered .now))) (sym none)
 
-sub-if2 : tie.Need-sub-if2
-sub-if2 c = search needs
-
-take-few-requires : tie.Need-take-few-requires
-take-few-requires c κs = search needs
-
-returns-2 : tie.Need-returns-2
-returns-2 c = search needs
-
 text-requires : tie.Need-text-requires
 text-requires c κs = search needs
 
 take-piece-requires : tie.Need-take-piece-requires
 take-piece-requires c κs =
-    let start = c .before .before .before .before .before in
+    let start = c .before .before .before .before in
     let size = ap length (c .text .ensures .content) ∙ length-take 133 (start .args .offered .now) in
     ((start .pre .0 .0, start .pre .0 .1, omega (arith, size)), start .pre .1)
 
-returns-3 : tie.Need-returns-3
-returns-3 c =
-    let a = c .before .before .before .before .before .before .before .args in
-    piece (c .before) ∙ ap (λ (l : List ℕ). turned (call (head (a .family)) (take (a .count) (a .held .now)) l)) (take-all 133 (a .offered .now) (c .if3 .taken))
+returns-2 : tie.Need-returns-2
+returns-2 c =
+    let a = c .before .before .before .before .before .before .args in
+    piece (c .before) ∙ ap (λ (l : List ℕ). turned (call (head (a .family)) (take (a .count) (a .held .now)) l)) (take-all 133 (a .offered .now) (c .if2 .taken))
 
 enum-known-step : tie.Need-enum-known-step
 enum-known-step c = search needs
@@ -71,9 +62,9 @@ enum-known-step c = search needs
 enum-told : tie.Need-enum-told
 enum-told c = search needs
 
-returns-4 : tie.Need-returns-4
-returns-4 c =
-    let a = c .before .before .before .before .before .before .before .before .before .args in
+returns-3 : tie.Need-returns-3
+returns-3 c =
+    let a = c .before .before .before .before .before .before .before .before .args in
     let held = take (a .count) (a .held .now) in
     stays-ready (a .family) held (take 133 (a .offered .now)) (drop 133 (a .offered .now)) _ (piece (c .before .before .before)) (c .before .match .keys2)
     ∙ ap (λ (l : List ℕ). turned (call (head (a .family)) held l)) (take-append-drop 133 (a .offered .now))
@@ -92,19 +83,19 @@ part-turn-of-end c = search needs
 
 turn-of-requires-2 : tie.Need-turn-of-requires-2
 turn-of-requires-2 c κs =
-    let start = c .before .before .before .before .before .before .before .before .before .before .before .before in
+    let start = c .before .before .before .before .before .before .before .before .before .before .before in
     let a = start .args in
     let from = 133 - c .before .before .before .before .before .before .take-piece .result .count in
     let goes = next (c .before .before .before) in
     let size = ap length (whole-rest (a .offered .now) from) ∙ length-drop from (a .offered .now) in
     let held = length-take (a .count) (a .held .now) in (
-      (omega (arith, size, fits (c .before .before), c .before .before .before .before .before .if3 .left), goes .short),
+      (omega (arith, size, fits (c .before .before), c .before .before .before .before .before .if2 .left), goes .short),
       (omega (arith, size, goes .all-taken, start .good), omega (arith, size, goes .few-skipped, start .good, held, start .pre .0 .1)),
     )
 
-returns-5 : tie.Need-returns-5
-returns-5 c =
-    let a = c .before .before .before .before .before .before .before .before .before .before .before .before .before .args in
+returns-4 : tie.Need-returns-4
+returns-4 c =
+    let a = c .before .before .before .before .before .before .before .before .before .before .before .before .args in
     let count = c .before .before .before .before .before .before .before .take-piece .result .count in
     let step = c .before .before .before .before .step .given .0 in
     c .turn-of2 .ensures
@@ -117,18 +108,15 @@ advance-spec =
     (tie.spec
     turn-of-requires
     returns
-    sub-if2
-    take-few-requires
-    returns-2
     text-requires
     take-piece-requires
-    returns-3
+    returns-2
     enum-known-step
     enum-told
-    returns-4
+    returns-3
     sub-from
     sub-turn-of
     part-turn-of-start
     part-turn-of-end
     turn-of-requires-2
-    returns-5)
+    returns-4)

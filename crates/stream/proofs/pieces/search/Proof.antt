@@ -1,7 +1,6 @@
 -- `stream::pieces::search` meets its contract: what the search of the buffer finds is what the call does.
 -- Assumes nothing.
-use Prim.Native.Nat.{ℕ, max, _-_}
-use mathlib.Core.Path.{_≡_, refl, sym, ap, _∙_}
+use mathlib.Core.Path.{_≡_, refl, sym, _∙_}
 use native.Mathlib.Omega.{arith}
 use borrow.Author.Needs.{needs}
 use Rattle.seek.specs.Sought.{soughtIn}
@@ -51,26 +50,23 @@ add-behind c =
 further-requires : tie.Need-further-requires
 further-requires c κs = search needs
 
-further-requires-2 : tie.Need-further-requires-2
-further-requires-2 c κs = search needs
-
 sub-t20 : tie.Need-sub-t20
 sub-t20 c = search needs
 
 add-t21 : tie.Need-add-t21
 add-t21 c =
-    let start = c .before .before .before .before .before .before .before .before in
+    let start = c .before .before .before .before .before .before .before in
     let a = start .args in
-    let hit = c .before .before .before .before .hit .given .0 .0 in
-    let cut = cut-ready (a .family) (a .work .now) (a .count) (a .taken) (a .skipped) (start .pre .0 .0) (start .pre .0 .1) hit (c .further2 .result) (ready (c .before .before .before .before)) (c .further2 .ensures ∙ ap (λ (n : ℕ). max n (a .count)) (c .before .further .ensures)) in
+    let hit = c .before .before .before .hit .given .0 .0 in
+    let cut = cut-ready (a .family) (a .work .now) (a .count) (a .taken) (a .skipped) (start .pre .0 .0) (start .pre .0 .1) hit (c .further .result) (ready (c .before .before .before)) (c .further .ensures) in
     omega (arith, cut .within, start .pre .1 .0)
 
 add-t22 : tie.Need-add-t22
 add-t22 c =
-    let start = c .before .before .before .before .before .before .before .before .before in
+    let start = c .before .before .before .before .before .before .before .before in
     let a = start .args in
-    let hit = c .before .before .before .before .before .hit .given .0 .0 in
-    let cut = cut-ready (a .family) (a .work .now) (a .count) (a .taken) (a .skipped) (start .pre .0 .0) (start .pre .0 .1) hit (c .before .further2 .result) (ready (c .before .before .before .before .before)) (c .before .further2 .ensures ∙ ap (λ (n : ℕ). max n (a .count)) (c .before .before .further .ensures)) in
+    let hit = c .before .before .before .before .hit .given .0 .0 in
+    let cut = cut-ready (a .family) (a .work .now) (a .count) (a .taken) (a .skipped) (start .pre .0 .0) (start .pre .0 .1) hit (c .before .further .result) (ready (c .before .before .before .before)) (c .before .further .ensures) in
     omega (arith, cut .order, cut .within, start .pre .1 .1)
 
 returns : tie.Need-returns
@@ -81,11 +77,11 @@ returns c =
 
 returns-2 : tie.Need-returns-2
 returns-2 c =
-    let start = c .before .before .before .before .before .before .before .before .before in
+    let start = c .before .before .before .before .before .before .before .before in
     let a = start .args in
     cut-ready (a .family) (a .work .now) (a .count) (a .taken) (a .skipped) (start .pre .0 .0) (start .pre .0 .1)
-    (c .before .before .before .before .before .hit .given .0 .0) (c .before .further2 .result) (ready (c .before .before .before .before .before))
-    (c .before .further2 .ensures ∙ ap (λ (n : ℕ). max n (a .count)) (c .before .before .further .ensures))
+    (c .before .before .before .before .hit .given .0 .0) (c .before .further .result) (ready (c .before .before .before .before))
+    (c .before .further .ensures)
 
 pub search-spec : {M : Type 1} → statement M
 search-spec =
@@ -99,7 +95,6 @@ search-spec =
     enum-known-hit
     add-behind
     further-requires
-    further-requires-2
     sub-t20
     add-t21
     add-t22
