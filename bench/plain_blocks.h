@@ -11,11 +11,16 @@
 
 #define BLOCK 16u
 
+/* What has to be laid out in its caller, for it is there that it is short. */
+#define WITHIN static inline __attribute__((always_inline))
+/* And what must not be. */
+#define APART static __attribute__((noinline))
+
 typedef uint8_t block __attribute__((vector_size(16)));
 typedef uint16_t pairs __attribute__((vector_size(16)));
 typedef uint64_t halves __attribute__((vector_size(16)));
 
-static inline block block_at(const uint8_t *b)
+WITHIN block block_at(const uint8_t *b)
 {
     block v;
 
@@ -23,29 +28,46 @@ static inline block block_at(const uint8_t *b)
     return v;
 }
 
-static inline void put_block(uint8_t *to, block v)
+WITHIN void put_block(uint8_t *to, block v)
 {
     memcpy(to, &v, sizeof v);
 }
 
 /* Whether every bit is set, as a comparison sets them where it holds. */
-static inline int all_set(block v)
+WITHIN int all_set(block v)
 {
     halves h = (halves)v;
 
     return (h[0] & h[1]) == ~(uint64_t)0;
 }
 
+WITHIN int any_set(block v)
+{
+    halves h = (halves)v;
+
+    return (h[0] | h[1]) != 0;
+}
+
 /* Which bytes are from low to low + span. */
-static inline block within(block v, block low, block span)
+WITHIN block within(block v, block low, block span)
 {
     return (block)(v - low <= span);
 }
 
 /* Which bytes a payload may hold. */
-static inline block payload_of(block v)
+WITHIN block payload_of(block v)
 {
     return (block)(v - 0x20 <= 0x5E) & (block)(v != '$') & (block)(v != '*');
+}
+
+/* The first place from i on, before n, whose byte no payload may hold; or n. */
+WITHIN size_t payload_end(const uint8_t *s, size_t i, size_t n)
+{
+    while (n - i >= BLOCK && all_set(payload_of(block_at(s + i))))
+        i += BLOCK;
+    while (i < n && s[i] - 0x20u <= 0x5E && s[i] != '$' && s[i] != '*')
+        i++;
+    return i;
 }
 
 /* Sixteen bytes of which the last many are set, the others 0; or the first,
@@ -55,26 +77,30 @@ static const uint8_t edges[48] = {
     255, 255, 255, 255, 255, 255, 255, 255, 255, 255, 255, 255, 255, 255, 255, 255
 };
 
-static inline block last_of_block(size_t many)
+WITHIN block last_of_block(size_t many)
 {
     return block_at(edges + many);
 }
 
-static inline block first_of_block(size_t many)
+WITHIN block first_of_block(size_t many)
 {
     return block_at(edges + 2 * BLOCK - many);
 }
 
-/* Moves many bytes.  What is moved never overlaps. */
-static inline void move_short(uint8_t *restrict to, const uint8_t *restrict from,
-                              size_t many)
-{
-    size_t i;
+/* A loop over blocks that are only moved or cleared is what a compiler knows as
+ * memcpy or memset, and calls; here that would cost more than the blocks do.
+ * So there are no such loops. */
 
-    if (many >= BLOCK) {
-        for (i = 0; i < many - BLOCK; i += BLOCK)
-            memcpy(to + i, from + i, BLOCK);
-        memcpy(to + many - BLOCK, from + many - BLOCK, BLOCK);
+WITHIN void move_block(uint8_t *restrict to, const uint8_t *restrict from)
+{
+    memcpy(to, from, BLOCK);
+}
+
+/* Moves many bytes, less than sixteen. */
+WITHIN void move_few(uint8_t *restrict to, const uint8_t *restrict from, size_t many)
+{
+    if (many == 1) {
+        *to = *from;
     } else if (many >= 8) {
         memcpy(to, from, 8);
         memcpy(to + many - 8, from + many - 8, 8);
@@ -86,6 +112,72 @@ static inline void move_short(uint8_t *restrict to, const uint8_t *restrict from
         to[many / 2] = from[many / 2];
         to[many - 1] = from[many - 1];
     }
+}
+
+/* Moves many bytes, at most 144: from both ends towards the middle, where the
+ * blocks overlap. */
+WITHIN void move_bytes(uint8_t *restrict to, const uint8_t *restrict from, size_t many)
+{
+    if (many < BLOCK) {
+        move_few(to, from, many);
+        return;
+    }
+    if (many > 2 * BLOCK) {
+        if (many > 4 * BLOCK) {
+            move_block(to + 32, from + 32);
+            move_block(to + 48, from + 48);
+            move_block(to + many - 64, from + many - 64);
+            move_block(to + many - 48, from + many - 48);
+            if (many > 8 * BLOCK)
+                move_block(to + 64, from + 64);
+        }
+        move_block(to + 16, from + 16);
+        move_block(to + many - 32, from + many - 32);
+    }
+    move_block(to, from);
+    move_block(to + many - BLOCK, from + many - BLOCK);
+}
+
+/* ---- Words -------------------------------------------------------------- */
+
+/* A number whose lowest byte is the first in memory, from one in the machine's
+ * own order, or the other way round. */
+#if __BYTE_ORDER__ == __ORDER_BIG_ENDIAN__
+#define IN_ORDER(word) __builtin_bswap64(word)
+#else
+#define IN_ORDER(word) (word)
+#endif
+
+/* Eight bytes as a number, the first one lowest. */
+WITHIN uint64_t word_at(const uint8_t *b)
+{
+    uint64_t word;
+
+    memcpy(&word, b, sizeof word);
+    return IN_ORDER(word);
+}
+
+WITHIN void put_word(uint8_t *b, uint64_t word)
+{
+    word = IN_ORDER(word);
+    memcpy(b, &word, sizeof word);
+}
+
+WITHIN uint32_t half_at(const uint8_t *b)
+{
+    return b[0] | (uint32_t)b[1] << 8 | (uint32_t)b[2] << 16 | (uint32_t)b[3] << 24;
+}
+
+/* The first bytes as such a number, at most eight, of n that may be read. */
+WITHIN uint64_t word_of(const uint8_t *b, size_t n)
+{
+    if (n >= 8)
+        return word_at(b);
+    if (n >= 4)
+        return half_at(b) | (uint64_t)half_at(b + n - 4) << 8 * (n - 4);
+    if (n == 0)
+        return 0;
+    return b[0] | (uint64_t)b[n / 2] << 8 * (n / 2) | (uint64_t)b[n - 1] << 8 * (n - 1);
 }
 
 #endif

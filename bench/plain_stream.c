@@ -1,520 +1,255 @@
 /* A stream reader in plain C, made to be fast.
  *
- * The bytes held and the bytes offered are one stretch.  A call walks along it
- * from its first byte: at a place where a good frame starts it hands that out,
- * at one where a start is undecided it wants more, and from any other it steps
- * on.  Nothing is known of a reader but its 144 bytes, and those may be any; so
- * what is held is looked at in every call, and what is unused is cleared in
- * every call.
+ * Nothing is known of a reader but its 144 bytes, and those may be any.  So in
+ * every call the held bytes are looked at, and the unused places have to be
+ * clear after it whatever stood there before.
  *
  * In a call of few bytes nearly always the start that was undecided stays so,
  * or is decided by the last byte.  Each family has a short way for that, which
- * looks at what it must and touches nothing twice.  Whatever else there may be
- * goes the long way, `settle`, which takes every state and every stretch. */
-#include "plain_blocks.h"
+ * looks at what it must and touches nothing twice.  It takes only states whose
+ * unused places are clear, as they are in every state that a call gave back:
+ * to look there is quicker than to write.  Whatever else there may be goes the
+ * long way, `settle`, before anything was altered but unused places.
+ *
+ * The short ways call nothing but in their last step, so that they need no room
+ * on the stack and save no register. */
 #include "plain_fields.h"
+#include "plain_held.h"
 #include "plain_stream.h"
 
-enum { PACKETS = 1, SENTENCES = 2, COMMANDS = 3 };
-enum {
-    SHORT_PACKET = 6, REPORT_LENGTH = 75,
-    LONGEST_PAYLOAD = 128, BEHIND_STAR = 4, LONGEST = 134, HELD = 133
-};
+/* ---- What the short ways share ------------------------------------------ */
 
-/* The most bytes that each family holds. */
-static const uint8_t limits[4] = {0, REPORT_LENGTH - 1, HELD, SHORT_PACKET - 1};
+/* Whether the held places from used on, at most 112, are clear: blocks from the
+ * last place down, of which the last begins at used. */
+#define AND_FROM(place) \
+    if (used > (place)) \
+        return !any_set(all | block_at(held + used)); \
+    all |= block_at(held + (place));
 
-/* ---- What a call leaves ------------------------------------------------- */
-
-/* Clears the held places from used on: whole blocks, of which the last reaches
- * back to end where the places do. */
-static inline void clear_from(uint8_t *held, size_t used)
+WITHIN int is_clear(const uint8_t *held, size_t used)
 {
-    if (used > HELD - BLOCK) {
-        while (used < HELD)
-            held[used++] = 0;
-        return;
-    }
-    for (; used < HELD - BLOCK; used += BLOCK)
-        memset(held + used, 0, BLOCK);
-    memset(held + HELD - BLOCK, 0, BLOCK);
-}
+    block all = block_at(held + HELD - BLOCK) | block_at(held + 112);
 
-static inline void hold(amp_reader *reader, const uint8_t *from, size_t many)
-{
-    move_short(reader->held, from, many);
-    clear_from(reader->held, many);
-    reader->count = (uint8_t)many;
-}
-
-static inline uint32_t lay(int64_t *row, int64_t kind, int64_t code, size_t taken)
-{
-    row[AMP_KIND] = kind;
-    row[AMP_CODE] = code;
-    row[AMP_TAKEN] = (int64_t)taken;
-    row[AMP_START] = 0;
-    row[AMP_SKIPPED] = 0;
-    row[AMP_LENGTH] = 0;
-    return 0;
+    AND_FROM(96)
+    AND_FROM(80)
+    AND_FROM(64)
+    AND_FROM(48)
+    AND_FROM(32)
+    AND_FROM(16)
+    return !any_set(all | block_at(held + used));
 }
 
 /* Takes all that is offered behind what is held, and wants more. */
-static inline uint32_t take_all(amp_reader *reader, size_t count,
-                                const uint8_t *offered, size_t n, int64_t *row)
+WITHIN uint32_t take_all(amp_reader *reader, const uint8_t *offered, size_t n, int64_t *row)
 {
-    move_short(reader->held + count, offered, n);
-    clear_from(reader->held, count + n);
-    reader->count = (uint8_t)(count + n);
-    return lay(row, AMP_MORE, 0, n);
+    move_bytes(reader->held + reader->count, offered, n);
+    reader->count = (uint8_t)(reader->count + n);
+    return lay(row, AMP_MORE, n);
 }
 
-/* Lays the rest of the row of a frame whose kind, code and values stand there,
- * and moves the reader behind it.  The frame starts skip bytes behind the
- * first held one. */
-static inline uint32_t hand_out(amp_reader *reader, size_t skip, size_t length,
-                                size_t taken, int64_t *row)
+/* The held bytes, at most five, and those offered behind them, as a word; where
+ * there are more than eight in all, the first eight. */
+WITHIN uint64_t joined_word(const amp_reader *reader, const uint8_t *offered, size_t n)
 {
-    uint32_t start = reader->at + (uint32_t)skip;
+    unsigned shift = 8 * reader->count;
 
-    row[AMP_TAKEN] = (int64_t)taken;
-    row[AMP_START] = start;
-    row[AMP_SKIPPED] = (uint32_t)(reader->skipped + (uint32_t)skip);
-    row[AMP_LENGTH] = (int64_t)length;
-    reader->at = start + (uint32_t)length;
-    reader->skipped = 0;
-    return 0;
+    return (word_at(reader->held) & ~(~UINT64_C(0) << shift))
+         | (n == 1 ? offered[0] : word_of(offered, n)) << shift;
 }
 
-static inline void lay_code(int64_t *row, unsigned family, uint8_t code)
+/* Whether the bytes of the word, have of them and at most seven, match marks
+ * and count as far as they go. */
+WITHIN int matches(uint64_t word, size_t have, uint64_t marks)
 {
-    row[AMP_KIND] = family == PACKETS ? AMP_ACK : AMP_COMMAND;
-    row[AMP_CODE] = code;
+    return ((word ^ marks) & 0xFFFFFFFF) << 8 * (7 - have) << 8 == 0;
 }
 
-static inline int carries(unsigned family, uint8_t code)
+/* Whether its first six bytes are a good short packet. */
+WITHIN int is_short(uint64_t word, uint64_t marks, unsigned use)
 {
-    return code_uses[code] & (family == PACKETS ? ACKNOWLEDGED : COMMANDED);
+    unsigned code = word >> 32 & 0xFF;
+
+    return (word & 0xFFFFFFFF) == marks && code == (word >> 40 & 0xFF)
+        && (code_uses[code] & use) != 0;
 }
 
-/* ---- The walk ----------------------------------------------------------- */
-
-/* A stretch of bytes, and how far a walk along it has come. */
-struct walk {
-    const uint8_t *s;
-    size_t n;
-    size_t p;          /* the start looked at */
-    size_t until;      /* only starts before this place are looked at */
-    size_t seen;       /* how many bytes had to be seen to come here */
-    size_t length;     /* of the frame that starts at p; 0 if there is none */
-    int closed;        /* no byte will follow: no start is undecided */
-};
-
-/* The end of a stretch, with less than four bytes: whoever is all marks there
- * is undecided. */
-static void walk_marks(struct walk *w, unsigned mark)
+/* Holds the bytes of the word, many of them and at most seven, and wants more. */
+WITHIN uint32_t keep_word(amp_reader *reader, uint64_t word, size_t many, size_t n, int64_t *row)
 {
-    size_t p = w->n;
-
-    while (!w->closed && p > w->p && w->s[p - 1] == mark)
-        p--;
-    w->p = p;
-}
-
-/* Whether the walk ends at p, where three marks stand and then another byte:
- * at a frame, or at a start that is undecided.  If not, the next start is at
- * best behind that byte. */
-static int ends_at_packet(struct walk *w, unsigned family, int64_t *row)
-{
-    const uint8_t *s = w->s + w->p;
-    size_t left = w->n - w->p;
-
-    if (s[3] == 1) {
-        if (left < SHORT_PACKET)
-            return !w->closed;
-        if (s[4] != s[5] || !carries(family, s[4]))
-            return 0;
-        lay_code(row, family, s[4]);
-        w->length = SHORT_PACKET;
-        return 1;
-    }
-    if (s[3] != 0x43 || family != PACKETS)
-        return 0;
-    if (left < REPORT_LENGTH)
-        return !w->closed;
-    w->seen = w->p + REPORT_LENGTH;
-    if (!read_report(s, row))
-        return 0;
-    w->length = REPORT_LENGTH;
-    return 1;
-}
-
-/* The byte behind the marks is looked at first: unless it is a mark itself,
- * four starts are settled at once. */
-static inline void walk_packets(struct walk *w, unsigned family, int64_t *row)
-{
-    const uint8_t *s = w->s;
-    unsigned mark = family == PACKETS ? 0xAA : 0x55;
-    size_t p = w->p;
-
-    while (p < w->until) {
-        if (w->n - p < 4) {
-            w->p = p;
-            walk_marks(w, mark);
-            return;
-        }
-        if (s[p + 3] == mark) {
-            p++;
-        } else if (s[p] == mark && s[p + 1] == mark && s[p + 2] == mark) {
-            w->p = p;
-            if (ends_at_packet(w, family, row))
-                return;
-            p += 4;
-        } else {
-            p += 4;
-        }
-    }
-    w->p = p;
-}
-
-/* How many bytes from i on, before n, a payload may hold. */
-static inline size_t payload_end(const uint8_t *s, size_t i, size_t n)
-{
-    while (n - i >= BLOCK && all_set(payload_of(block_at(s + i))))
-        i += BLOCK;
-    while (i < n && s[i] - 0x20u <= 0x5E && s[i] != '$' && s[i] != '*')
-        i++;
-    return i;
-}
-
-/* Whether the walk ends at p, where a dollar sign stands.  If not, it has gone
- * over the bytes seen to be payload, for none of them is a dollar sign. */
-static int ends_at_sentence(struct walk *w, int64_t *row)
-{
-    const uint8_t *s = w->s + w->p;
-    size_t left = w->n - w->p, end;
-
-    w->length = read_written(s, left, row);
-    if (w->length > 0)
-        return 1;
-    end = payload_end(s, 1, left < LONGEST_PAYLOAD + 2 ? left : LONGEST_PAYLOAD + 2);
-    if (end < LONGEST_PAYLOAD + 2) {
-        if (end == left || (s[end] == '*' && left - end <= BEHIND_STAR)) {
-            if (!w->closed)
-                return 1;
-        } else if (s[end] == '*' && read_sentence(s, end, row)) {
-            w->length = end + 1 + BEHIND_STAR;
-            return 1;
-        }
-    }
-    w->p += end;
-    return 0;
-}
-
-static inline void walk_sentences(struct walk *w, int64_t *row)
-{
-    while (w->p < w->until) {
-        if (w->s[w->p] != '$')
-            w->p++;
-        else if (ends_at_sentence(w, row))
-            return;
-    }
-}
-
-static inline void walk(struct walk *w, unsigned family, int64_t *row)
-{
-    if (family == SENTENCES)
-        walk_sentences(w, row);
-    else if (family == PACKETS)
-        walk_packets(w, PACKETS, row);
-    else
-        walk_packets(w, COMMANDS, row);
-}
-
-/* ---- The long way ------------------------------------------------------- */
-
-/* Answers after a walk over what was offered, from its place p on, with all
- * that was held before it skipped. */
-static uint32_t answer_offered(amp_reader *reader, struct walk *w, int64_t *row)
-{
-    size_t count = reader->count, end = w->p + w->length, skip = count + w->p;
-    size_t seen = w->seen > end ? w->seen : end;
-
-    if (w->length > 0) {
-        hold(reader, w->s + end, seen - end);
-        return hand_out(reader, skip, w->length, seen, row);
-    }
-    hold(reader, w->s + w->p, w->n - w->p);
-    reader->at += (uint32_t)skip;
-    reader->skipped += (uint32_t)skip;
-    return lay(row, w->closed ? AMP_DONE : AMP_MORE, 0, w->n);
-}
-
-/* Walks over what was offered from the place p on: no earlier start is left,
- * and to know that, seen bytes of it had to be seen. */
-static uint32_t settle_offered(amp_reader *reader, const uint8_t *offered, size_t n,
-                               size_t p, size_t seen, int64_t *row)
-{
-    struct walk w = {offered, n, p, n, seen, 0, reader->closed};
-
-    walk(&w, reader->family, row);
-    return answer_offered(reader, &w, row);
-}
-
-/* Starts among the held bytes are looked at with as many of the offered ones
- * behind them as the longest frame has. */
-static uint32_t settle(amp_reader *reader, const uint8_t *offered, size_t n, int64_t *row)
-{
-    uint8_t joined[HELD + LONGEST];
-    size_t count = reader->count, lead = n < LONGEST ? n : LONGEST, end;
-    struct walk w = {joined, count + lead, 0, count, 0, 0, reader->closed};
-
-    if (count == 0)
-        return settle_offered(reader, offered, n, 0, 0, row);
-    memcpy(joined, reader->held, HELD);
-    move_short(joined + count, offered, lead);
-    walk(&w, reader->family, row);
-    if (w.length == 0 && w.p >= count)
-        return settle_offered(reader, offered, n, w.p - count,
-                              w.seen > count ? w.seen - count : 0, row);
-    end = w.p + w.length;
-    if (w.length > 0) {
-        if (w.seen < end)
-            w.seen = end;
-        if (w.seen < count)
-            w.seen = count;
-        hold(reader, joined + end, w.seen - end);
-        return hand_out(reader, w.p, w.length, w.seen - count, row);
-    }
-    hold(reader, joined + w.p, w.n - w.p);
-    reader->at += (uint32_t)w.p;
-    reader->skipped += (uint32_t)w.p;
-    return lay(row, AMP_MORE, 0, n);
-}
-
-/* ---- The short ways ----------------------------------------------------- */
-
-/* Eight bytes as a number, the first one lowest. */
-static inline uint64_t word_at(const uint8_t *b)
-{
-    return b[0] | (uint64_t)b[1] << 8 | (uint64_t)b[2] << 16 | (uint64_t)b[3] << 24
-         | (uint64_t)b[4] << 32 | (uint64_t)b[5] << 40 | (uint64_t)b[6] << 48
-         | (uint64_t)b[7] << 56;
-}
-
-static inline uint32_t half_at(const uint8_t *b)
-{
-    return b[0] | (uint32_t)b[1] << 8 | (uint32_t)b[2] << 16 | (uint32_t)b[3] << 24;
-}
-
-static inline void put_word(uint8_t *b, uint64_t word)
-{
-    b[0] = (uint8_t)word;
-    b[1] = (uint8_t)(word >> 8);
-    b[2] = (uint8_t)(word >> 16);
-    b[3] = (uint8_t)(word >> 24);
-    b[4] = (uint8_t)(word >> 32);
-    b[5] = (uint8_t)(word >> 40);
-    b[6] = (uint8_t)(word >> 48);
-    b[7] = (uint8_t)(word >> 56);
-}
-
-/* The same of fewer bytes, where no more may be read. */
-static inline uint64_t word_of(const uint8_t *b, size_t n)
-{
-    if (n >= 8)
-        return word_at(b);
-    if (n >= 4)
-        return half_at(b) | (uint64_t)half_at(b + n - 4) << 8 * (n - 4);
-    if (n == 0)
-        return 0;
-    return b[0] | (uint64_t)b[n / 2] << 8 * (n / 2) | (uint64_t)b[n - 1] << 8 * (n - 1);
-}
-
-/* Whether the bytes of the word, have of them and at least one, begin with the
- * family's marks as far as they go, and with an allowed count. */
-static inline int begins(uint64_t word, size_t have, unsigned family)
-{
-    uint64_t marks = family == PACKETS ? 0xAAAAAA : 0x555555;
-    unsigned count = word >> 24 & 0xFF;
-
-    if (have < 4)
-        return (word ^ marks) << (64 - 8 * have) == 0;
-    return (word & 0xFFFFFF) == marks && (count == 1 || (count == 0x43 && family == PACKETS));
-}
-
-/* Whether six bytes that begin so are a good short packet. */
-static inline int short_packet(uint64_t word, unsigned family)
-{
-    uint8_t code = (uint8_t)(word >> 32);
-
-    return (word >> 24 & 0xFF) == 1 && (word >> 40 & 0xFF) == code && carries(family, code);
-}
-
-/* Where at most five bytes are held, and at most eight in all, the whole walk
- * is one in a word. */
-static inline uint32_t feed_word(amp_reader *reader, const uint8_t *offered, size_t n,
-                                 unsigned family, int64_t *row)
-{
-    size_t count = reader->count, have = count + n, skip = 0;
-    uint64_t word = word_at(reader->held) & ~(~UINT64_C(0) << 8 * count);
-
-    word |= word_of(offered, n) << 8 * count;
-    for (; have > 0; have--, skip++, word >>= 8) {
-        if (!begins(word, have, family))
-            continue;
-        if (have < SHORT_PACKET || (word >> 24 & 0xFF) == 0x43)
-            break;
-        if (!short_packet(word, family))
-            continue;
-        clear_from(reader->held, 0);
-        reader->count = 0;
-        lay_code(row, family, (uint8_t)(word >> 32));
-        return hand_out(reader, skip, SHORT_PACKET, skip + SHORT_PACKET - count, row);
-    }
     put_word(reader->held, word);
-    clear_from(reader->held, 8);
-    reader->count = (uint8_t)have;
-    reader->at += (uint32_t)skip;
-    reader->skipped += (uint32_t)skip;
-    return lay(row, AMP_MORE, 0, n);
+    reader->count = (uint8_t)many;
+    return lay(row, AMP_MORE, n);
 }
 
-static inline uint32_t feed_commands(amp_reader *reader, const uint8_t *offered, size_t n,
-                                     int64_t *row)
+/* ---- Family 3 ----------------------------------------------------------- */
+
+APART uint32_t feed_commands(amp_reader *reader, const uint8_t *offered, size_t n,
+                             int64_t *row, size_t row_len)
 {
-    if (reader->count + n <= 8)
-        return feed_word(reader, offered, n, COMMANDS, row);
-    return settle(reader, offered, n, row);
+    size_t have = reader->count + n;
+    uint64_t word;
+
+    if (reader->count > limits[COMMANDS] || !is_clear(reader->held, 8))
+        return settle(reader, offered, n, row, row_len);
+    word = joined_word(reader, offered, n);
+    if (have < SHORT_PACKET && matches(word, have, COMMAND_MARKS))
+        return keep_word(reader, word, have, n, row);
+    if (have >= SHORT_PACKET && is_short(word, COMMAND_MARKS, COMMANDED))
+        return give_short(reader, 0, AMP_COMMAND, (uint8_t)(word >> 32), row);
+    if (have > SHORT_PACKET)
+        return settle(reader, offered, n, row, row_len);
+    return keep_begun(reader, word << 8 * (7 - have) << 8, COMMAND_MARKS, COMMAND_MARKS, have, n,
+                      row);
 }
 
-static inline uint32_t feed_packets(amp_reader *reader, const uint8_t *offered, size_t n,
-                                    int64_t *row)
+/* ---- Family 1 ----------------------------------------------------------- */
+
+/* The report that was begun is whole: it is read in place. */
+APART uint32_t feed_report(amp_reader *reader, const uint8_t *offered, size_t n,
+                           int64_t *row, size_t row_len)
 {
     size_t count = reader->count;
 
-    if (count >= 4 && half_at(reader->held) == 0x43AAAAAA) {
-        if (n < REPORT_LENGTH - count)
-            return take_all(reader, count, offered, n, row);
-        move_short(reader->held + count, offered, REPORT_LENGTH - count);
-        if (read_report(reader->held, row)) {
-            clear_from(reader->held, 0);
-            reader->count = 0;
-            return hand_out(reader, 0, REPORT_LENGTH, REPORT_LENGTH - count, row);
-        }
-        return settle(reader, offered, n, row);
-    }
-    if (count < SHORT_PACKET && count + n <= 8)
-        return feed_word(reader, offered, n, PACKETS, row);
-    return settle(reader, offered, n, row);
+    move_bytes(reader->held + count, offered, REPORT_LENGTH - count);
+    if (!read_report(reader->held, row))
+        return settle(reader, offered, n, row, row_len);
+    clear_all(reader);
+    return hand_out(reader, 0, REPORT_LENGTH, REPORT_LENGTH - count, row);
 }
 
-/* Whether the held bytes from the second on, count at most 129, are all ones
- * that a payload may hold. */
-static inline int all_payload(const uint8_t *held, size_t count)
+/* No report is begun in the held bytes, which are at most five, and at most
+ * seven are there in all. */
+APART uint32_t feed_few(amp_reader *reader, const uint8_t *offered, size_t n,
+                        int64_t *row, size_t row_len)
 {
-    block fit = payload_of((block){0} + ' ');
-    size_t i = 1;
+    size_t have = reader->count + n;
+    uint64_t word = joined_word(reader, offered, n);
 
-    for (; count - i >= BLOCK; i += BLOCK)
-        fit &= payload_of(block_at(held + i));
-    if (i < count)
-        fit &= payload_of(block_at(held + i)) | ~first_of_block(count - i);
-    return all_set(fit);
+    if (!is_clear(reader->held, 8))
+        return settle(reader, offered, n, row, row_len);
+    if (matches(word, have, REPORT_MARKS)
+        || (have < SHORT_PACKET && matches(word, have, PACKET_MARKS)))
+        return keep_word(reader, word, have, n, row);
+    if (have >= SHORT_PACKET && is_short(word, PACKET_MARKS, ACKNOWLEDGED))
+        return give_short(reader, 0, AMP_ACK, (uint8_t)(word >> 32), row);
+    if (have > SHORT_PACKET)
+        return settle(reader, offered, n, row, row_len);
+    return keep_begun(reader, word << 8 * (7 - have) << 8, PACKET_MARKS, REPORT_MARKS, have, n,
+                      row);
 }
 
-/* The sentence whose star is at end is whole: it is read in place where it
- * fits. */
-static uint32_t feed_whole(amp_reader *reader, const uint8_t *offered, size_t n,
-                           size_t end, int64_t *row)
+APART uint32_t feed_packets(amp_reader *reader, const uint8_t *offered, size_t n,
+                            int64_t *row, size_t row_len)
+{
+    size_t count = reader->count;
+
+    if (count > limits[PACKETS])
+        return settle(reader, offered, n, row, row_len);
+    if (count >= 4 && half_at(reader->held) == REPORT_MARKS) {
+        if (n >= REPORT_LENGTH - count)
+            return feed_report(reader, offered, n, row, row_len);
+        if (is_clear(reader->held, count))
+            return take_all(reader, offered, n, row);
+    } else if (count < SHORT_PACKET && count + n < 8) {
+        return feed_few(reader, offered, n, row, row_len);
+    }
+    return settle(reader, offered, n, row, row_len);
+}
+
+/* ---- Family 2 ----------------------------------------------------------- */
+
+/* Whether the held bytes, count from 1 to 127 and the first a dollar sign, are
+ * else all ones that a payload may hold.  Blocks are looked at as one_more
+ * writes them: a load that takes a part of what was just written waits. */
+WITHIN int all_payload(const uint8_t *held, size_t count)
+{
+    block fit = payload_of(block_at(held)) | first_of_block(1);
+    size_t i;
+
+    for (i = BLOCK; i <= count; i += BLOCK) {
+        if (!all_set(fit))
+            return 0;
+        fit = payload_of(block_at(held + i));
+    }
+    return all_set(fit | ~first_of_block(count + BLOCK - i));
+}
+
+/* Takes a byte behind a payload, in the block that it belongs to, and clears
+ * what is behind it there. */
+WITHIN uint32_t one_more(amp_reader *reader, uint8_t byte, int64_t *row)
+{
+    size_t count = reader->count, within = count % BLOCK;
+    uint8_t *place = reader->held + (count - within);
+    block before = first_of_block(within), here = first_of_block(within + 1) ^ before;
+
+    put_block(place, (block_at(place) & before) | (((block){0} + byte) & here));
+    reader->count = (uint8_t)(count + 1);
+    return lay(row, AMP_MORE, 1);
+}
+
+/* The payload ends at end, with a star or with the bytes that are there. */
+WITHIN uint32_t feed_end(amp_reader *reader, const uint8_t *offered, size_t n, size_t end,
+                         int64_t *row, size_t row_len)
 {
     size_t count = reader->count, whole = end + 1 + BEHIND_STAR;
 
-    if (whole > count && whole <= HELD) {
-        move_short(reader->held + count, offered, whole - count);
-        if (read_sentence(reader->held, end, row)) {
-            clear_from(reader->held, 0);
-            reader->count = 0;
-            return hand_out(reader, 0, whole, whole - count, row);
-        }
-    }
-    return settle(reader, offered, n, row);
+    if (count + n < whole && count <= 112 && is_clear(reader->held, count))
+        return take_all(reader, offered, n, row);
+    if (count + n < whole || whole <= count || whole > HELD)
+        return settle(reader, offered, n, row, row_len);
+    move_bytes(reader->held + count, offered, whole - count);
+    if (!read_sentence(reader->held, end, row))
+        return settle(reader, offered, n, row, row_len);
+    clear_all(reader);
+    return hand_out(reader, 0, whole, whole - count, row);
 }
 
-static inline uint32_t feed_sentences(amp_reader *reader, const uint8_t *offered, size_t n,
-                                      int64_t *row)
+/* More than a byte, or one that ends the payload, or one behind the star. */
+APART uint32_t feed_payload(amp_reader *reader, const uint8_t *offered, size_t n,
+                            int64_t *row, size_t row_len)
 {
     const uint8_t *held = reader->held;
     size_t count = reader->count, room = LONGEST_PAYLOAD + 2 - count, end;
 
-    if (count == 0 || held[0] != '$')
-        return settle(reader, offered, n, row);
-    if (count < LONGEST_PAYLOAD + 2 && all_payload(held, count)) {
+    if (all_payload(held, count)) {
         end = count + payload_end(offered, 0, n < room ? n : room);
         if (end >= LONGEST_PAYLOAD + 2 || (end < count + n && offered[end - count] != '*'))
-            return settle_offered(reader, offered, n, end - count, 0, row);
+            return settle_offered(reader, offered, n, end - count, row);
     } else {
         end = payload_end(held, 1, count);
-        if (end >= LONGEST_PAYLOAD + 2 || held[end] != '*')
-            return settle(reader, offered, n, row);
+        if (held[end] != '*')
+            return settle(reader, offered, n, row, row_len);
     }
-    if (count + n <= end + BEHIND_STAR)
-        return take_all(reader, count, offered, n, row);
-    return feed_whole(reader, offered, n, end, row);
+    return feed_end(reader, offered, n, end, row, row_len);
+}
+
+APART uint32_t feed_sentences(amp_reader *reader, const uint8_t *offered, size_t n,
+                              int64_t *row, size_t row_len)
+{
+    size_t count = reader->count;
+
+    if (count - 1u > 126 || reader->held[0] != '$')
+        return settle(reader, offered, n, row, row_len);
+    if (n == 1 && offered[0] - 0x20u <= 0x5E && offered[0] != '$' && count < 112
+        && all_payload(reader->held, count) && is_clear(reader->held, (count | 15) + 1))
+        return one_more(reader, offered[0], row);
+    return feed_payload(reader, offered, n, row, row_len);
 }
 
 /* ---- The entries -------------------------------------------------------- */
 
-static inline uint32_t refusal(const amp_reader *reader)
-{
-    if (reader->family < 1 || reader->family > 3)
-        return AMP_NO_FAMILY;
-    return reader->count > limits[reader->family] ? AMP_HOLDS_TOO_MUCH : 0;
-}
-
-static size_t places_of(const int64_t *row)
-{
-    if (row[AMP_KIND] == AMP_STATUS)
-        return AMP_VALUES + AMP_STATUS_VALUES;
-    if (row[AMP_KIND] != AMP_SENTENCE)
-        return AMP_VALUES;
-    return AMP_VALUES + (row[AMP_CODE] == 2 ? AMP_02_VALUES : row[AMP_CODE] == 3 ? AMP_03_VALUES
-                         : row[AMP_CODE] == 5 ? AMP_05_VALUES : 0);
-}
-
-/* A row that may turn out too short: the call is made on copies, and what it
- * did is kept if there is room for its answer. */
-static uint32_t feed_narrow(amp_reader *reader, const uint8_t *offered, size_t n,
-                            int64_t *row, size_t row_len)
-{
-    amp_reader other = *reader;
-    int64_t wide[AMP_ROW];
-
-    settle(&other, offered, n, wide);
-    if (row_len < places_of(wide))
-        return AMP_NO_ROOM;
-    memcpy(row, wide, places_of(wide) * sizeof *row);
-    *reader = other;
-    return 0;
-}
-
 uint32_t plain_feed(amp_reader *reader, const uint8_t *offered, size_t offered_len,
                     int64_t *row, size_t row_len)
 {
-    uint32_t number = refusal(reader);
-
-    if (number != 0)
-        return number;
-    if (reader->closed && offered_len > 0)
-        return AMP_CLOSED;
-    if (row_len < AMP_ROW)
-        return feed_narrow(reader, offered, offered_len, row, row_len);
-    if (reader->closed)
-        return settle(reader, offered, 0, row);
-    if (reader->family == SENTENCES)
-        return feed_sentences(reader, offered, offered_len, row);
-    if (reader->family == PACKETS)
-        return feed_packets(reader, offered, offered_len, row);
-    return feed_commands(reader, offered, offered_len, row);
+    if (!reader->closed && row_len >= AMP_ROW) {
+        if (reader->family == PACKETS)
+            return feed_packets(reader, offered, offered_len, row, row_len);
+        if (reader->family == SENTENCES)
+            return feed_sentences(reader, offered, offered_len, row, row_len);
+        if (reader->family == COMMANDS)
+            return feed_commands(reader, offered, offered_len, row, row_len);
+    }
+    return settle(reader, offered, offered_len, row, row_len);
 }
 
 uint32_t plain_fresh(amp_reader *reader, uint32_t family)
@@ -528,11 +263,11 @@ uint32_t plain_fresh(amp_reader *reader, uint32_t family)
 
 uint32_t plain_close(amp_reader *reader)
 {
-    uint32_t number = refusal(reader);
-
-    if (number != 0)
-        return number;
-    clear_from(reader->held, reader->count);
+    if (reader->family < 1 || reader->family > 3)
+        return AMP_NO_FAMILY;
+    if (reader->count > limits[reader->family])
+        return AMP_HOLDS_TOO_MUCH;
+    memset(reader->held + reader->count, 0, HELD - reader->count);
     reader->closed = 1;
     return 0;
 }

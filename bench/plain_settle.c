@@ -1,0 +1,317 @@
+/* The long way of the plain stream reader: any call on any state.
+ *
+ * The bytes held and the bytes offered are one stretch.  A walk goes along it
+ * from its first byte: at a place where a good frame starts it hands that out,
+ * at one where a start is undecided it wants more, and from any other it steps
+ * on.  Starts among the held bytes are looked at in a copy, with as many of the
+ * offered ones behind them as the longest frame has; all others where they
+ * stand. */
+#include "plain_fields.h"
+#include "plain_held.h"
+
+static inline void hold(amp_reader *reader, const uint8_t *from, size_t many)
+{
+    clear_all(reader);
+    move_bytes(reader->held, from, many);
+    reader->count = (uint8_t)many;
+}
+
+/* A stretch of bytes, and how far a walk along it has come. */
+struct walk {
+    const uint8_t *s;
+    size_t n;
+    size_t p;          /* the start looked at */
+    size_t until;      /* only starts before this place are looked at */
+    size_t seen;       /* how many bytes had to be seen to come here */
+    size_t length;     /* of the frame that starts at p; 0 if there is none */
+    int closed;        /* no byte will follow: no start is undecided */
+};
+
+/* ---- Family 1 ----------------------------------------------------------- */
+
+/* The end of a stretch, with less than four bytes: whoever is all marks there
+ * is undecided. */
+static void walk_marks(struct walk *w)
+{
+    size_t p = w->n;
+
+    while (!w->closed && p > w->p && w->s[p - 1] == 0xAA)
+        p--;
+    w->p = p;
+}
+
+/* Whether the walk ends at p, where three marks stand and then another byte:
+ * at a frame, or at a start that is undecided.  If not, the next start is at
+ * best behind that byte. */
+static inline int ends_at_packet(struct walk *w, int64_t *row)
+{
+    const uint8_t *s = w->s + w->p;
+    size_t left = w->n - w->p;
+
+    if (s[3] == 1) {
+        if (left < SHORT_PACKET)
+            return !w->closed;
+        if (s[4] != s[5] || !(code_uses[s[4]] & ACKNOWLEDGED))
+            return 0;
+        row[AMP_KIND] = AMP_ACK;
+        row[AMP_CODE] = s[4];
+        w->length = SHORT_PACKET;
+        return 1;
+    }
+    if (s[3] != 0x43)
+        return 0;
+    if (left < REPORT_LENGTH)
+        return !w->closed;
+    w->seen = w->p + REPORT_LENGTH;
+    if (!read_report(s, row))
+        return 0;
+    w->length = REPORT_LENGTH;
+    return 1;
+}
+
+/* The byte behind the marks is looked at first: unless it is a mark itself,
+ * four starts are settled at once. */
+static inline void walk_packets(struct walk *w, int64_t *row)
+{
+    const uint8_t *s = w->s;
+    size_t p = w->p;
+
+    while (p < w->until) {
+        if (w->n - p < 4) {
+            w->p = p;
+            walk_marks(w);
+            return;
+        }
+        if (s[p + 3] == 0xAA) {
+            p++;
+        } else if (s[p] == 0xAA && s[p + 1] == 0xAA && s[p + 2] == 0xAA) {
+            w->p = p;
+            if (ends_at_packet(w, row))
+                return;
+            p += 4;
+        } else {
+            p += 4;
+        }
+    }
+    w->p = p;
+}
+
+/* ---- Family 2 ----------------------------------------------------------- */
+
+/* Whether the walk ends at p, where a dollar sign stands.  If not, it has gone
+ * over the bytes seen to be payload, for none of them is a dollar sign. */
+static inline int ends_at_sentence(struct walk *w, int64_t *row)
+{
+    const uint8_t *s = w->s + w->p;
+    size_t left = w->n - w->p, end;
+
+    w->length = read_written(s, left, row);
+    if (w->length > 0)
+        return 1;
+    end = payload_end(s, 1, left < LONGEST_PAYLOAD + 2 ? left : LONGEST_PAYLOAD + 2);
+    if (end < LONGEST_PAYLOAD + 2) {
+        if (end == left || (s[end] == '*' && left - end <= BEHIND_STAR)) {
+            if (!w->closed)
+                return 1;
+        } else if (s[end] == '*' && read_sentence(s, end, row)) {
+            w->length = end + 1 + BEHIND_STAR;
+            return 1;
+        }
+    }
+    w->p += end;
+    return 0;
+}
+
+static inline void walk_sentences(struct walk *w, int64_t *row)
+{
+    while (w->p < w->until) {
+        if (w->s[w->p] != '$')
+            w->p++;
+        else if (ends_at_sentence(w, row))
+            return;
+    }
+}
+
+static inline void walk(struct walk *w, unsigned family, int64_t *row)
+{
+    if (family == PACKETS)
+        walk_packets(w, row);
+    else
+        walk_sentences(w, row);
+}
+
+/* ---- Families 1 and 2 --------------------------------------------------- */
+
+/* Answers after a walk over a stretch of which the first count bytes were held
+ * and others were dropped before; n were offered. */
+static inline uint32_t answer(amp_reader *reader, struct walk *w, size_t count, size_t dropped,
+                              size_t n, int64_t *row)
+{
+    size_t end = w->p + w->length, skip = dropped + w->p;
+
+    if (w->length > 0) {
+        if (w->seen < end)
+            w->seen = end;
+        if (w->seen < count)
+            w->seen = count;
+        hold(reader, w->s + end, w->seen - end);
+        return hand_out(reader, skip, w->length, w->seen - count, row);
+    }
+    hold(reader, w->s + w->p, w->n - w->p);
+    reader->at += (uint32_t)skip;
+    reader->skipped += (uint32_t)skip;
+    return lay(row, w->closed ? AMP_DONE : AMP_MORE, n);
+}
+
+uint32_t settle_offered(amp_reader *reader, const uint8_t *offered, size_t n,
+                        size_t p, int64_t *row)
+{
+    struct walk w = {offered, n, p, n, 0, 0, 0};
+
+    walk(&w, reader->family, row);
+    return answer(reader, &w, 0, reader->count, n, row);
+}
+
+static uint32_t settle_walk(amp_reader *reader, const uint8_t *offered, size_t n, int64_t *row)
+{
+    uint8_t joined[HELD + LONGEST_SENTENCE];
+    size_t count = reader->count, lead = n < LONGEST_SENTENCE ? n : LONGEST_SENTENCE;
+    struct walk w = {offered, n, 0, n, 0, 0, reader->closed};
+    struct walk first = {joined, count + lead, 0, count, 0, 0, reader->closed};
+
+    if (count > 0) {
+        memcpy(joined, reader->held, HELD - BLOCK);
+        move_block(joined + HELD - BLOCK, reader->held + HELD - BLOCK);
+        move_bytes(joined + count, offered, lead);
+        walk(&first, reader->family, row);
+        if (first.length > 0 || first.p < count)
+            return answer(reader, &first, count, 0, n, row);
+        w.p = first.p - count;
+        w.seen = first.seen > count ? first.seen - count : 0;
+    }
+    walk(&w, reader->family, row);
+    return answer(reader, &w, 0, count, n, row);
+}
+
+/* ---- Family 3 ----------------------------------------------------------- */
+
+/* Sixteen starts are looked at together, and reach over so many bytes. */
+#define WINDOW (BLOCK + SHORT_PACKET - 1)
+
+/* The first of sixteen starts at which a good command stands; 16 if there is
+ * none. */
+static inline size_t first_command(const uint8_t *s)
+{
+    block fit = (block)(block_at(s) == 0x55) & (block)(block_at(s + 1) == 0x55)
+              & (block)(block_at(s + 2) == 0x55) & (block)(block_at(s + 3) == 1)
+              & (block)(block_at(s + 4) == block_at(s + 5));
+    size_t i;
+
+    if (!any_set(fit))
+        return BLOCK;
+    for (i = 0; i < BLOCK; i++)
+        if (half_at(s + i) == COMMAND_MARKS && s[i + 4] == s[i + 5]
+            && (code_uses[s[i + 4]] & COMMANDED))
+            break;
+    return i;
+}
+
+/* The last bytes, a window or less: those that are not there are noughts, and a
+ * nought is no code, so that nothing is found that reaches over them.  p bytes
+ * stand before the window. */
+static uint32_t settle_window(amp_reader *reader, const uint8_t *window, size_t have, size_t p,
+                              size_t n, int64_t *row)
+{
+    size_t i = first_command(window), many = have < 7 ? have : 7;
+    uint64_t word = word_at(window + (have - many));
+
+    if (i < BLOCK)
+        return give_short(reader, p + i, AMP_COMMAND, window[i + 4], row);
+    return keep_begun(reader, word << 8 * (7 - many) << 8, COMMAND_MARKS, COMMAND_MARKS, p + have,
+                      n, row);
+}
+
+static uint32_t settle_commands(amp_reader *reader, const uint8_t *offered, size_t n, int64_t *row)
+{
+    uint8_t window[WINDOW + 3] = {0};
+    size_t count = reader->count, have = count + n, p = 0, i;
+
+    if (count > 0 || n <= WINDOW) {
+        size_t lead = have > WINDOW ? WINDOW - count : n;
+
+        move_few(window, reader->held, count);
+        move_bytes(window + count, offered, lead);
+        if (have <= WINDOW)
+            return settle_window(reader, window, have, 0, n, row);
+        i = first_command(window);
+        if (i < BLOCK)
+            return give_short(reader, i, AMP_COMMAND, window[i + 4], row);
+        p = BLOCK;
+    }
+    for (; have - p > WINDOW; p += BLOCK) {
+        const uint8_t *s = offered + (p - count);
+
+        i = first_command(s);
+        if (i < BLOCK)
+            return give_short(reader, p + i, AMP_COMMAND, s[i + 4], row);
+    }
+    memset(window, 0, sizeof window);
+    move_bytes(window, offered + (p - count), have - p);
+    return settle_window(reader, window, have - p, p, n, row);
+}
+
+/* ---- Any call ----------------------------------------------------------- */
+
+static uint32_t settle_wide(amp_reader *reader, const uint8_t *offered, size_t n, int64_t *row)
+{
+    if (reader->family != COMMANDS)
+        return settle_walk(reader, offered, n, row);
+    if (!reader->closed) {
+        memset(reader->held + 8, 0, HELD - 8);
+        return settle_commands(reader, offered, n, row);
+    }
+    reader->at += reader->count;
+    reader->skipped += reader->count;
+    clear_all(reader);
+    return lay(row, AMP_DONE, 0);
+}
+
+static size_t places_of(const int64_t *row)
+{
+    if (row[AMP_KIND] == AMP_STATUS)
+        return AMP_VALUES + AMP_STATUS_VALUES;
+    if (row[AMP_KIND] != AMP_SENTENCE)
+        return AMP_VALUES;
+    return AMP_VALUES + (row[AMP_CODE] == 2 ? AMP_02_VALUES : row[AMP_CODE] == 3 ? AMP_03_VALUES
+                         : row[AMP_CODE] == 5 ? AMP_05_VALUES : 0);
+}
+
+/* A row that may turn out too short: the call is made on copies, and what it
+ * did is kept if there is room for its answer. */
+static uint32_t settle_narrow(amp_reader *reader, const uint8_t *offered, size_t n,
+                              int64_t *row, size_t row_len)
+{
+    amp_reader other = *reader;
+    int64_t wide[AMP_ROW];
+
+    settle_wide(&other, offered, n, wide);
+    if (row_len < places_of(wide))
+        return AMP_NO_ROOM;
+    memcpy(row, wide, places_of(wide) * sizeof *row);
+    *reader = other;
+    return 0;
+}
+
+uint32_t settle(amp_reader *reader, const uint8_t *offered, size_t n,
+                int64_t *row, size_t row_len)
+{
+    if (reader->family < 1 || reader->family > 3)
+        return AMP_NO_FAMILY;
+    if (reader->count > limits[reader->family])
+        return AMP_HOLDS_TOO_MUCH;
+    if (reader->closed && n > 0)
+        return AMP_CLOSED;
+    if (row_len < AMP_ROW)
+        return settle_narrow(reader, offered, n, row, row_len);
+    return settle_wide(reader, offered, n, row);
+}
