@@ -71,7 +71,7 @@ struct ranges {
     uint8_t low[71], span[71];
 };
 #define RANGES(layout) {{layout(LOW)}, {layout(SPAN)}}
-static const struct ranges report_20k = RANGES(REPORT_20K), report_13k = RANGES(REPORT_13K),
+static const struct ranges reports[2] = {RANGES(REPORT_13K), RANGES(REPORT_20K)},
     sentence_02 = RANGES(SENTENCE_02), sentence_03 = RANGES(SENTENCE_03),
     sentence_05 = RANGES(SENTENCE_05);
 
@@ -138,7 +138,7 @@ static inline unsigned sum_of_pairs(pairs v)
  * comma, the alarm and a comma, which the four blocks that are summed leave. */
 static inline int fits_and_sums(const uint8_t *d)
 {
-    const struct ranges *r = d[1] == '2' ? &report_20k : &report_13k;
+    const struct ranges *r = &reports[d[1] == '2'];
     block a = block_at(d), b = block_at(d + 16), c = block_at(d + 32), e = block_at(d + 48);
     block fit = data_fits(a, r, 0) & data_fits(b, r, 16) & data_fits(c, r, 32)
               & data_fits(e, r, 48) & data_fits(block_at(d + 55), r, 55);
@@ -154,7 +154,7 @@ static inline int fits_and_sums(const uint8_t *d)
  * last place of each number is a digit already, for its mask has no bit. */
 static inline int joins(const uint8_t *d)
 {
-    unsigned top = d[1] == '2' ? '0' : '1';
+    unsigned top = '1' - (d[1] == '2');
     unsigned fault = (d[WATTS] & ~d[WATTS + 1]) | (d[WATTS + 1] & ~d[WATTS + 2])
                    | (d[UPPER] & ~d[UPPER + 1]) | (d[LOWER] & ~d[LOWER + 1])
                    | (d[COMBINER] & ~d[COMBINER + 1]);
@@ -162,7 +162,7 @@ static inline int joins(const uint8_t *d)
                      & LEVELS >> (d[LEVEL] - 'A') & WARNINGS >> (d[WARNING] - 'A')
                      & ALARMS >> (d[ALARM] - 'A') & TUNERS >> (d[TUNER] - 'a');
 
-    return (fault & 0x10) == 0 && (letters & 1) && (d[BAND] == '0' || d[BAND + 1] <= top);
+    return ((fault & 0x10) == 0) & letters & ((d[BAND] == '0') | (d[BAND + 1] <= top));
 }
 
 /* The number of a digit, or 0 of a space. */
@@ -188,7 +188,7 @@ static inline int64_t four(const uint8_t *b)
 
 static void lay_report(const uint8_t *d, int64_t *v)
 {
-    v[AMP_STATUS_ID] = d[1] == '2' ? 20 : 13;
+    v[AMP_STATUS_ID] = 13 + (d[1] == '2') * 7;
     v[AMP_STATUS_STATE] = d[STATE];
     v[AMP_STATUS_DIRECTION] = d[DIRECTION];
     v[AMP_STATUS_BANK] = d[BANK];

@@ -36,6 +36,16 @@ WITHIN void clear_all(amp_reader *reader)
     reader->count = 0;
 }
 
+/* Whether the held places from used on, at most 16, are clear.  Where nothing
+ * was written there a short while ago, to look is quicker than to write. */
+WITHIN int is_clear(const uint8_t *held, size_t used)
+{
+    return !any_set(block_at(held + used) | block_at(held + 16) | block_at(held + 32)
+                    | block_at(held + 48) | block_at(held + 64) | block_at(held + 80)
+                    | block_at(held + 96) | block_at(held + 112)
+                    | block_at(held + HELD - BLOCK));
+}
+
 /* Lays the row of an answer that is no frame. */
 WITHIN uint32_t lay(int64_t *row, int64_t kind, size_t taken)
 {

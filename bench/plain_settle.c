@@ -11,7 +11,8 @@
 
 static inline void hold(amp_reader *reader, const uint8_t *from, size_t many)
 {
-    clear_all(reader);
+    if (reader->count > 0 || !is_clear(reader->held, 0))
+        clear_all(reader);
     move_bytes(reader->held, from, many);
     reader->count = (uint8_t)many;
 }
@@ -267,7 +268,8 @@ static uint32_t settle_wide(amp_reader *reader, const uint8_t *offered, size_t n
     if (reader->family != COMMANDS)
         return settle_walk(reader, offered, n, row);
     if (!reader->closed) {
-        memset(reader->held + 8, 0, HELD - 8);
+        if (!is_clear(reader->held, 8))
+            memset(reader->held + 8, 0, HELD - 8);
         return settle_commands(reader, offered, n, row);
     }
     reader->at += reader->count;

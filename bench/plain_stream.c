@@ -6,10 +6,8 @@
  *
  * In a call of few bytes nearly always the start that was undecided stays so,
  * or is decided by the last byte.  Each family has a short way for that, which
- * looks at what it must and touches nothing twice.  It takes only states whose
- * unused places are clear, as they are in every state that a call gave back:
- * to look there is quicker than to write.  Whatever else there may be goes the
- * long way, `settle`, before anything was altered but unused places.
+ * looks at what it must and touches nothing twice.  Whatever else there may be
+ * goes the long way, `settle`, before anything was altered but unused places.
  *
  * The short ways call nothing but in their last step, so that they need no room
  * on the stack and save no register. */
@@ -19,29 +17,35 @@
 
 /* ---- What the short ways share ------------------------------------------ */
 
-/* Whether the held places from used on, at most 112, are clear: blocks from the
- * last place down, of which the last begins at used. */
-#define AND_FROM(place) \
-    if (used > (place)) \
-        return !any_set(all | block_at(held + used)); \
-    all |= block_at(held + (place));
+/* Clears the held places from used on, at most 112: whole blocks from the last
+ * place down, of which the last begins at used.  (A loop of these is what a
+ * compiler knows as memset, and calls; that would cost more than they do.) */
+#define CLEAR(place) \
+    if (used > (place)) { \
+        put_block(held + used, none); \
+        return; \
+    } \
+    put_block(held + (place), none);
 
-WITHIN int is_clear(const uint8_t *held, size_t used)
+WITHIN void clear_from(uint8_t *held, size_t used)
 {
-    block all = block_at(held + HELD - BLOCK) | block_at(held + 112);
+    const block none = {0};
 
-    AND_FROM(96)
-    AND_FROM(80)
-    AND_FROM(64)
-    AND_FROM(48)
-    AND_FROM(32)
-    AND_FROM(16)
-    return !any_set(all | block_at(held + used));
+    put_block(held + HELD - BLOCK, none);
+    put_block(held + 112, none);
+    CLEAR(96)
+    CLEAR(80)
+    CLEAR(64)
+    CLEAR(48)
+    CLEAR(32)
+    CLEAR(16)
+    put_block(held + used, none);
 }
 
 /* Takes all that is offered behind what is held, and wants more. */
 WITHIN uint32_t take_all(amp_reader *reader, const uint8_t *offered, size_t n, int64_t *row)
 {
+    clear_from(reader->held, reader->count);
     move_bytes(reader->held + reader->count, offered, n);
     reader->count = (uint8_t)(reader->count + n);
     return lay(row, AMP_MORE, n);
@@ -125,8 +129,7 @@ APART uint32_t feed_few(amp_reader *reader, const uint8_t *offered, size_t n,
     size_t have = reader->count + n;
     uint64_t word = joined_word(reader, offered, n);
 
-    if (!is_clear(reader->held, 8))
-        return settle(reader, offered, n, row, row_len);
+    clear_from(reader->held, 8);
     if (matches(word, have, REPORT_MARKS)
         || (have < SHORT_PACKET && matches(word, have, PACKET_MARKS)))
         return keep_word(reader, word, have, n, row);
@@ -136,6 +139,15 @@ APART uint32_t feed_few(amp_reader *reader, const uint8_t *offered, size_t n,
         return settle(reader, offered, n, row, row_len);
     return keep_begun(reader, word << 8 * (7 - have) << 8, PACKET_MARKS, REPORT_MARKS, have, n,
                       row);
+}
+
+/* Nothing is held, and a report begins what is offered. */
+APART uint32_t feed_at_once(amp_reader *reader, const uint8_t *offered, size_t n,
+                            int64_t *row, size_t row_len)
+{
+    if (!is_clear(reader->held, 0) || !read_report(offered, row))
+        return settle(reader, offered, n, row, row_len);
+    return hand_out(reader, 0, REPORT_LENGTH, REPORT_LENGTH, row);
 }
 
 APART uint32_t feed_packets(amp_reader *reader, const uint8_t *offered, size_t n,
@@ -148,11 +160,12 @@ APART uint32_t feed_packets(amp_reader *reader, const uint8_t *offered, size_t n
     if (count >= 4 && half_at(reader->held) == REPORT_MARKS) {
         if (n >= REPORT_LENGTH - count)
             return feed_report(reader, offered, n, row, row_len);
-        if (is_clear(reader->held, count))
-            return take_all(reader, offered, n, row);
-    } else if (count < SHORT_PACKET && count + n < 8) {
-        return feed_few(reader, offered, n, row, row_len);
+        return take_all(reader, offered, n, row);
     }
+    if (count < SHORT_PACKET && count + n < 8)
+        return feed_few(reader, offered, n, row, row_len);
+    if (count == 0 && n >= REPORT_LENGTH && half_at(offered) == REPORT_MARKS)
+        return feed_at_once(reader, offered, n, row, row_len);
     return settle(reader, offered, n, row, row_len);
 }
 
@@ -182,6 +195,7 @@ WITHIN uint32_t one_more(amp_reader *reader, uint8_t byte, int64_t *row)
     uint8_t *place = reader->held + (count - within);
     block before = first_of_block(within), here = first_of_block(within + 1) ^ before;
 
+    clear_from(reader->held, count - within + BLOCK);
     put_block(place, (block_at(place) & before) | (((block){0} + byte) & here));
     reader->count = (uint8_t)(count + 1);
     return lay(row, AMP_MORE, 1);
@@ -193,7 +207,7 @@ WITHIN uint32_t feed_end(amp_reader *reader, const uint8_t *offered, size_t n, s
 {
     size_t count = reader->count, whole = end + 1 + BEHIND_STAR;
 
-    if (count + n < whole && count <= 112 && is_clear(reader->held, count))
+    if (count + n < whole && count <= 112)
         return take_all(reader, offered, n, row);
     if (count + n < whole || whole <= count || whole > HELD)
         return settle(reader, offered, n, row, row_len);
@@ -223,15 +237,36 @@ APART uint32_t feed_payload(amp_reader *reader, const uint8_t *offered, size_t n
     return feed_end(reader, offered, n, end, row, row_len);
 }
 
+/* Nothing is held. */
+APART uint32_t feed_first(amp_reader *reader, const uint8_t *offered, size_t n,
+                          int64_t *row, size_t row_len)
+{
+    size_t length;
+
+    if (!is_clear(reader->held, 0) || (n > 0 && offered[0] != '$'))
+        return settle(reader, offered, n, row, row_len);
+    if (n <= 1) {
+        reader->held[0] = n > 0 ? '$' : 0;
+        reader->count = (uint8_t)n;
+        return lay(row, AMP_MORE, n);
+    }
+    length = read_written(offered, n, row);
+    if (length == 0)
+        return settle_offered(reader, offered, n, 0, row);
+    return hand_out(reader, 0, length, length, row);
+}
+
 APART uint32_t feed_sentences(amp_reader *reader, const uint8_t *offered, size_t n,
                               int64_t *row, size_t row_len)
 {
     size_t count = reader->count;
 
-    if (count - 1u > 126 || reader->held[0] != '$')
+    if (count == 0)
+        return feed_first(reader, offered, n, row, row_len);
+    if (count > 127 || reader->held[0] != '$')
         return settle(reader, offered, n, row, row_len);
     if (n == 1 && offered[0] - 0x20u <= 0x5E && offered[0] != '$' && count < 112
-        && all_payload(reader->held, count) && is_clear(reader->held, (count | 15) + 1))
+        && all_payload(reader->held, count))
         return one_more(reader, offered[0], row);
     return feed_payload(reader, offered, n, row, row_len);
 }
