@@ -63,38 +63,91 @@ static inline int ends_at_packet(struct walk *w, int64_t *row)
         return 0;
     if (left < REPORT_LENGTH)
         return !w->closed;
-    w->seen = w->p + REPORT_LENGTH;
     if (!read_report(s, row))
         return 0;
     w->length = REPORT_LENGTH;
     return 1;
 }
 
-/* The byte behind the marks is looked at first: unless it is a mark itself,
- * four starts are settled at once. */
+/* Whether a good packet may stand at one of the sixteen starts from s on, as
+ * far as its first six bytes tell. */
+static inline int packet_near(const uint8_t *s)
+{
+    block fourth = block_at(s + 3), fifth = block_at(s + 4);
+
+    return any_set((block)(block_at(s) == 0xAA) & (block)(block_at(s + 1) == 0xAA)
+                   & (block)(block_at(s + 2) == 0xAA)
+                   & (((block)(fourth == 1) & (block)(fifth == block_at(s + 5)))
+                      | ((block)(fourth == 0x43) & (block)(fifth == ','))));
+}
+
+static inline int at_marks(const uint8_t *s)
+{
+    return half_at(s) == PACKET_MARKS || half_at(s) == REPORT_MARKS;
+}
+
+/* Goes on to the next marks with an allowed count while so many bytes are left
+ * that sixteen starts are decided, over those sixteen at once where it can.
+ * Gives whether there are any. */
+static inline int skip_to_marks(struct walk *w)
+{
+    size_t p = w->p;
+
+    while (w->n - p >= BLOCK + REPORT_LENGTH) {
+        if (at_marks(w->s + p))
+            break;
+        if (packet_near(w->s + p))
+            do
+                p++;
+            while (!at_marks(w->s + p));
+        else
+            p += BLOCK;
+    }
+    w->p = p;
+    return w->n - p >= BLOCK + REPORT_LENGTH;
+}
+
+/* Begun reports that were skipped had to be seen whole before what stands at p
+ * or behind it can be handed out: looks back for the last of them, down to
+ * where the walk began. */
+static void see_reports(struct walk *w, size_t from)
+{
+    size_t i = w->n < REPORT_LENGTH ? 0 : w->n - REPORT_LENGTH + 1;
+
+    for (i = i < w->p ? i : w->p; i-- > from && i + REPORT_LENGTH > w->p + SHORT_PACKET; )
+        if (half_at(w->s + i) == REPORT_MARKS) {
+            if (w->seen < i + REPORT_LENGTH)
+                w->seen = i + REPORT_LENGTH;
+            return;
+        }
+}
+
+/* Where fewer are left, the byte behind the marks is looked at first: unless it
+ * is a mark itself, four starts are settled at once. */
 static inline void walk_packets(struct walk *w, int64_t *row)
 {
     const uint8_t *s = w->s;
-    size_t p = w->p;
+    size_t from = w->p;
 
-    while (p < w->until) {
+    while (w->p < w->until) {
+        size_t p = w->p;
+
         if (w->n - p < 4) {
-            w->p = p;
             walk_marks(w);
             return;
         }
-        if (s[p + 3] == 0xAA) {
-            p++;
-        } else if (s[p] == 0xAA && s[p + 1] == 0xAA && s[p + 2] == 0xAA) {
-            w->p = p;
-            if (ends_at_packet(w, row))
+        if (skip_to_marks(w)
+            || (s[(p = w->p) + 3] != 0xAA && s[p] == 0xAA && s[p + 1] == 0xAA && s[p + 2] == 0xAA)) {
+            if (ends_at_packet(w, row)) {
+                if (w->length == SHORT_PACKET)
+                    see_reports(w, from);
                 return;
-            p += 4;
+            }
+            w->p += 4;
         } else {
-            p += 4;
+            w->p += s[p + 3] == 0xAA ? 1 : 4;
         }
     }
-    w->p = p;
 }
 
 /* ---- Family 2 ----------------------------------------------------------- */
@@ -123,10 +176,43 @@ static inline int ends_at_sentence(struct walk *w, int64_t *row)
     return 0;
 }
 
+/* Whether a good sentence may stand at one of the sixteen starts from s on, as
+ * far as its first eight bytes tell. */
+static inline int sentence_near(const uint8_t *s)
+{
+    return any_set((block)(block_at(s) == '$') & (block)(block_at(s + 1) == 'A')
+                   & (block)(block_at(s + 2) == 'P') & (block)(block_at(s + 3) == 'A')
+                   & (block)(block_at(s + 5) - '0' <= 9) & (block)(block_at(s + 7) != '$'));
+}
+
+static inline int at_name(const uint8_t *s)
+{
+    return half_at(s) == ('$' | 'A' << 8 | 'P' << 16 | (uint32_t)'A' << 24);
+}
+
+/* The same as for marks. */
+static inline int skip_to_name(struct walk *w)
+{
+    size_t p = w->p;
+
+    while (w->n - p >= BLOCK + LONGEST_SENTENCE) {
+        if (at_name(w->s + p))
+            break;
+        if (sentence_near(w->s + p))
+            do
+                p++;
+            while (!at_name(w->s + p));
+        else
+            p += BLOCK;
+    }
+    w->p = p;
+    return w->n - p >= BLOCK + LONGEST_SENTENCE;
+}
+
 static inline void walk_sentences(struct walk *w, int64_t *row)
 {
     while (w->p < w->until) {
-        if (w->s[w->p] != '$')
+        if (!skip_to_name(w) && w->s[w->p] != '$')
             w->p++;
         else if (ends_at_sentence(w, row))
             return;
@@ -187,6 +273,8 @@ static uint32_t settle_walk(amp_reader *reader, const uint8_t *offered, size_t n
         walk(&first, reader->family, row);
         if (first.length > 0 || first.p < count)
             return answer(reader, &first, count, 0, n, row);
+        if (reader->family == PACKETS)
+            see_reports(&first, 0);
         w.p = first.p - count;
         w.seen = first.seen > count ? first.seen - count : 0;
     }
@@ -200,12 +288,13 @@ static uint32_t settle_walk(amp_reader *reader, const uint8_t *offered, size_t n
 #define WINDOW (BLOCK + SHORT_PACKET - 1)
 
 /* The first of sixteen starts at which a good command stands; 16 if there is
- * none. */
+ * none.  No mark is a code: that turns away a packet that was broken off before
+ * its code where the next begins. */
 static inline size_t first_command(const uint8_t *s)
 {
     block fit = (block)(block_at(s) == 0x55) & (block)(block_at(s + 1) == 0x55)
               & (block)(block_at(s + 2) == 0x55) & (block)(block_at(s + 3) == 1)
-              & (block)(block_at(s + 4) == block_at(s + 5));
+              & (block)(block_at(s + 4) == block_at(s + 5)) & (block)(block_at(s + 4) != 0x55);
     size_t i;
 
     if (!any_set(fit))

@@ -187,6 +187,18 @@ WITHIN int all_payload(const uint8_t *held, size_t count)
     return all_set(fit | ~first_of_block(count + BLOCK - i));
 }
 
+/* The same from the last byte back, in the blocks that calls of sixteen bytes
+ * write. */
+WITHIN int all_payload_back(const uint8_t *held, size_t count)
+{
+    size_t i;
+
+    for (i = count; i > BLOCK; i -= BLOCK)
+        if (!all_set(payload_of(block_at(held + i - BLOCK))))
+            return 0;
+    return all_set(payload_of(block_at(held + 1)) | ~first_of_block(i - 1));
+}
+
 /* Takes a byte behind a payload, in the block that it belongs to, and clears
  * what is behind it there. */
 WITHIN uint32_t one_more(amp_reader *reader, uint8_t byte, int64_t *row)
@@ -225,7 +237,7 @@ APART uint32_t feed_payload(amp_reader *reader, const uint8_t *offered, size_t n
     const uint8_t *held = reader->held;
     size_t count = reader->count, room = LONGEST_PAYLOAD + 2 - count, end;
 
-    if (all_payload(held, count)) {
+    if (all_payload_back(held, count)) {
         end = count + payload_end(offered, 0, n < room ? n : room);
         if (end >= LONGEST_PAYLOAD + 2 || (end < count + n && offered[end - count] != '*'))
             return settle_offered(reader, offered, n, end - count, row);
