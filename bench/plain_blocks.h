@@ -20,6 +20,14 @@ typedef uint8_t block __attribute__((vector_size(16)));
 typedef uint16_t pairs __attribute__((vector_size(16)));
 typedef uint64_t halves __attribute__((vector_size(16)));
 
+/* A number whose lowest byte is the first in memory, from one in the machine's
+ * own order, or the other way round. */
+#if __BYTE_ORDER__ == __ORDER_BIG_ENDIAN__
+#define IN_ORDER(word) __builtin_bswap64(word)
+#else
+#define IN_ORDER(word) (word)
+#endif
+
 WITHIN block block_at(const uint8_t *b)
 {
     block v;
@@ -48,6 +56,15 @@ WITHIN int any_set(block v)
     return (h[0] | h[1]) != 0;
 }
 
+/* The first byte that is set, of a comparison's: there is one. */
+WITHIN size_t first_set(block v)
+{
+    halves h = (halves)v;
+
+    return h[0] != 0 ? (size_t)__builtin_ctzll(IN_ORDER(h[0])) / 8
+                     : 8 + (size_t)__builtin_ctzll(IN_ORDER(h[1])) / 8;
+}
+
 /* Which bytes are from low to low + span. */
 WITHIN block within(block v, block low, block span)
 {
@@ -60,14 +77,24 @@ WITHIN block payload_of(block v)
     return (block)(v - 0x20 <= 0x5E) & (block)(v != '$') & (block)(v != '*');
 }
 
-/* The first place from i on, before n, whose byte no payload may hold; or n. */
+/* The first place from i on, before n, whose byte no payload may hold; or n.
+ * The last block reaches back over bytes that were looked at. */
 WITHIN size_t payload_end(const uint8_t *s, size_t i, size_t n)
 {
-    while (n - i >= BLOCK && all_set(payload_of(block_at(s + i))))
-        i += BLOCK;
-    while (i < n && s[i] - 0x20u <= 0x5E && s[i] != '$' && s[i] != '*')
-        i++;
-    return i;
+    block fit;
+
+    if (n - i < BLOCK) {
+        while (i < n && s[i] - 0x20u <= 0x5E && s[i] != '$' && s[i] != '*')
+            i++;
+        return i;
+    }
+    for (; i < n - BLOCK; i += BLOCK) {
+        fit = payload_of(block_at(s + i));
+        if (!all_set(fit))
+            return i + first_set(~fit);
+    }
+    fit = payload_of(block_at(s + n - BLOCK));
+    return all_set(fit) ? n : n - BLOCK + first_set(~fit);
 }
 
 /* Sixteen bytes of which the last many are set, the others 0; or the first,
@@ -139,14 +166,6 @@ WITHIN void move_bytes(uint8_t *restrict to, const uint8_t *restrict from, size_
 }
 
 /* ---- Words -------------------------------------------------------------- */
-
-/* A number whose lowest byte is the first in memory, from one in the machine's
- * own order, or the other way round. */
-#if __BYTE_ORDER__ == __ORDER_BIG_ENDIAN__
-#define IN_ORDER(word) __builtin_bswap64(word)
-#else
-#define IN_ORDER(word) (word)
-#endif
 
 /* Eight bytes as a number, the first one lowest. */
 WITHIN uint64_t word_at(const uint8_t *b)

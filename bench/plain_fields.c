@@ -210,13 +210,13 @@ static void lay_report(const uint8_t *d, int64_t *v)
     v[AMP_STATUS_ALARM] = d[ALARM];
 }
 
-/* The first comma is looked at before the rest: it turns away nearly all that
- * only looks like a report. */
+/* The first comma and the line end are looked at before the rest: they turn
+ * away nearly all that only looks like a report. */
 int read_report(const uint8_t *b, int64_t *row)
 {
     const uint8_t *d = b + 4;
 
-    if (d[0] != ',' || !fits_and_sums(d) || !joins(d))
+    if (d[0] != ',' || d[SUM + 2] != 0x0D || d[SUM + 3] != 0x0A || !fits_and_sums(d) || !joins(d))
         return 0;
     row[AMP_KIND] = AMP_STATUS;
     row[AMP_CODE] = 0;

@@ -69,42 +69,32 @@ static inline int ends_at_packet(struct walk *w, int64_t *row)
     return 1;
 }
 
-/* Whether a good packet may stand at one of the sixteen starts from s on, as
- * far as its first six bytes tell. */
-static inline int packet_near(const uint8_t *s)
+/* At which of the sixteen starts from s on a good packet may stand, as far as
+ * its first six bytes tell. */
+static inline block packets_near(const uint8_t *s)
 {
     block fourth = block_at(s + 3), fifth = block_at(s + 4);
 
-    return any_set((block)(block_at(s) == 0xAA) & (block)(block_at(s + 1) == 0xAA)
-                   & (block)(block_at(s + 2) == 0xAA)
-                   & (((block)(fourth == 1) & (block)(fifth == block_at(s + 5)))
-                      | ((block)(fourth == 0x43) & (block)(fifth == ','))));
+    return (block)(block_at(s) == 0xAA) & (block)(block_at(s + 1) == 0xAA)
+         & (block)(block_at(s + 2) == 0xAA)
+         & (((block)(fourth == 1) & (block)(fifth == block_at(s + 5)))
+            | ((block)(fourth == 0x43) & (block)(fifth == ',')));
 }
 
-static inline int at_marks(const uint8_t *s)
-{
-    return half_at(s) == PACKET_MARKS || half_at(s) == REPORT_MARKS;
-}
-
-/* Goes on to the next marks with an allowed count while so many bytes are left
- * that sixteen starts are decided, over those sixteen at once where it can.
- * Gives whether there are any. */
+/* Goes on to the next start where a good packet may stand, over sixteen at
+ * once, while so many bytes are left that all of those are decided.  Gives
+ * whether there is one. */
 static inline int skip_to_marks(struct walk *w)
 {
-    size_t p = w->p;
+    for (; w->n - w->p >= BLOCK + REPORT_LENGTH; w->p += BLOCK) {
+        block near = packets_near(w->s + w->p);
 
-    while (w->n - p >= BLOCK + REPORT_LENGTH) {
-        if (at_marks(w->s + p))
-            break;
-        if (packet_near(w->s + p))
-            do
-                p++;
-            while (!at_marks(w->s + p));
-        else
-            p += BLOCK;
+        if (any_set(near)) {
+            w->p += first_set(near);
+            return 1;
+        }
     }
-    w->p = p;
-    return w->n - p >= BLOCK + REPORT_LENGTH;
+    return 0;
 }
 
 /* Begun reports that were skipped had to be seen whole before what stands at p
@@ -176,37 +166,27 @@ static inline int ends_at_sentence(struct walk *w, int64_t *row)
     return 0;
 }
 
-/* Whether a good sentence may stand at one of the sixteen starts from s on, as
- * far as its first eight bytes tell. */
-static inline int sentence_near(const uint8_t *s)
+/* At which of the sixteen starts from s on a good sentence may stand, as far
+ * as its first eight bytes tell. */
+static inline block sentences_near(const uint8_t *s)
 {
-    return any_set((block)(block_at(s) == '$') & (block)(block_at(s + 1) == 'A')
-                   & (block)(block_at(s + 2) == 'P') & (block)(block_at(s + 3) == 'A')
-                   & (block)(block_at(s + 5) - '0' <= 9) & (block)(block_at(s + 7) != '$'));
-}
-
-static inline int at_name(const uint8_t *s)
-{
-    return half_at(s) == ('$' | 'A' << 8 | 'P' << 16 | (uint32_t)'A' << 24);
+    return (block)(block_at(s) == '$') & (block)(block_at(s + 1) == 'A')
+         & (block)(block_at(s + 2) == 'P') & (block)(block_at(s + 3) == 'A')
+         & (block)(block_at(s + 5) - '0' <= 9) & (block)(block_at(s + 7) != '$');
 }
 
 /* The same as for marks. */
 static inline int skip_to_name(struct walk *w)
 {
-    size_t p = w->p;
+    for (; w->n - w->p >= BLOCK + LONGEST_SENTENCE; w->p += BLOCK) {
+        block near = sentences_near(w->s + w->p);
 
-    while (w->n - p >= BLOCK + LONGEST_SENTENCE) {
-        if (at_name(w->s + p))
-            break;
-        if (sentence_near(w->s + p))
-            do
-                p++;
-            while (!at_name(w->s + p));
-        else
-            p += BLOCK;
+        if (any_set(near)) {
+            w->p += first_set(near);
+            return 1;
+        }
     }
-    w->p = p;
-    return w->n - p >= BLOCK + LONGEST_SENTENCE;
+    return 0;
 }
 
 static inline void walk_sentences(struct walk *w, int64_t *row)
@@ -299,7 +279,7 @@ static inline size_t first_command(const uint8_t *s)
 
     if (!any_set(fit))
         return BLOCK;
-    for (i = 0; i < BLOCK; i++)
+    for (i = first_set(fit); i < BLOCK; i++)
         if (half_at(s + i) == COMMAND_MARKS && s[i + 4] == s[i + 5]
             && (code_uses[s[i + 4]] & COMMANDED))
             break;
