@@ -200,16 +200,34 @@ WITHIN int all_payload_back(const uint8_t *held, size_t count)
 }
 
 /* Takes a byte behind a payload, in the block that it belongs to, and clears
- * what is behind it there. */
+ * what is behind it there and in the blocks that follow. */
 WITHIN uint32_t one_more(amp_reader *reader, uint8_t byte, int64_t *row)
 {
     size_t count = reader->count, within = count % BLOCK;
     uint8_t *place = reader->held + (count - within);
     block before = first_of_block(within), here = first_of_block(within + 1) ^ before;
+    block filled = (block_at(place) & before) | (((block){0} + byte) & here);
 
-    clear_from(reader->held, count - within + BLOCK);
-    put_block(place, (block_at(place) & before) | (((block){0} + byte) & here));
+    if (count < 112)
+        clear_from(reader->held, count - within + BLOCK);
+    else
+        memset(reader->held + HELD - 8, 0, 8);
+    put_block(place, filled);
     reader->count = (uint8_t)(count + 1);
+    return lay(row, AMP_MORE, 1);
+}
+
+/* A dollar sign behind a payload: the sentence was broken off, and another is
+ * begun. */
+WITHIN uint32_t begin_again(amp_reader *reader, int64_t *row)
+{
+    uint32_t count = reader->count;
+
+    clear_from(reader->held, BLOCK);
+    put_block(reader->held, ((block){0} + '$') & first_of_block(1));
+    reader->count = 1;
+    reader->at += count;
+    reader->skipped += count;
     return lay(row, AMP_MORE, 1);
 }
 
@@ -277,9 +295,8 @@ APART uint32_t feed_sentences(amp_reader *reader, const uint8_t *offered, size_t
         return feed_first(reader, offered, n, row, row_len);
     if (count > 127 || reader->held[0] != '$')
         return settle(reader, offered, n, row, row_len);
-    if (n == 1 && offered[0] - 0x20u <= 0x5E && offered[0] != '$' && count < 112
-        && all_payload(reader->held, count))
-        return one_more(reader, offered[0], row);
+    if (n == 1 && offered[0] - 0x20u <= 0x5E && all_payload(reader->held, count))
+        return offered[0] != '$' ? one_more(reader, offered[0], row) : begin_again(reader, row);
     return feed_payload(reader, offered, n, row, row_len);
 }
 
