@@ -372,7 +372,7 @@ static size_t written_05(const uint8_t *b, int64_t *row)
 
 size_t read_written(const uint8_t *b, size_t left, int64_t *row)
 {
-    if (left < STAR_05 + 5 || b[4] != '0')
+    if (left < SHORTEST_WRITTEN || b[4] != '0')
         return 0;
     if (b[5] == '2')
         return left >= STAR_02 + 5 && b[STAR_02] == '*' ? written_02(b, row) : 0;

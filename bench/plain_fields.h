@@ -17,6 +17,9 @@ int read_report(const uint8_t *b, int64_t *row);
  * the dollar sign b[0] being seen to be payload, with four bytes behind it. */
 int read_sentence(const uint8_t *b, size_t star, int64_t *row);
 
+/* The length of the shortest sentence 02, 03 or 05 that has the writer's widths. */
+#define SHORTEST_WRITTEN 32u
+
 /* The length of the good sentence 02, 03 or 05 at b that has the writer's
  * widths, laid in the row; 0 if the left bytes from b on begin with none, and
  * then nothing is laid.  That says nothing yet against a sentence of another

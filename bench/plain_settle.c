@@ -250,8 +250,10 @@ static uint32_t settle_walk(amp_reader *reader, const uint8_t *offered, size_t n
         memcpy(joined, reader->held, HELD - BLOCK);
         move_block(joined + HELD - BLOCK, reader->held + HELD - BLOCK);
         move_bytes(joined + count, offered, lead);
+        if (lead == n)
+            first.until = first.n;
         walk(&first, reader->family, row);
-        if (first.length > 0 || first.p < count)
+        if (first.length > 0 || first.p < count || lead == n)
             return answer(reader, &first, count, 0, n, row);
         if (reader->family == PACKETS)
             see_reports(&first, 0);

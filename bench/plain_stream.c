@@ -280,6 +280,11 @@ APART uint32_t feed_first(amp_reader *reader, const uint8_t *offered, size_t n,
         reader->count = (uint8_t)n;
         return lay(row, AMP_MORE, n);
     }
+    if (n < SHORTEST_WRITTEN && payload_end(offered, 1, n) == n) {
+        move_bytes(reader->held, offered, n);
+        reader->count = (uint8_t)n;
+        return lay(row, AMP_MORE, n);
+    }
     length = read_written(offered, n, row);
     if (length == 0)
         return settle_offered(reader, offered, n, 0, row);
