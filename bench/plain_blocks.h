@@ -97,8 +97,8 @@ WITHIN size_t payload_end(const uint8_t *s, size_t i, size_t n)
     return all_set(fit) ? n : n - BLOCK + first_set(~fit);
 }
 
-/* Sixteen bytes of which the last many are set, the others 0; or the first,
- * from the second on: many is at most 16. */
+/* Masks of sixteen bytes: where they begin in this row tells how many of the
+ * first or of the last are set. */
 static const uint8_t edges[48] = {
     0, 0, 0, 0, 0, 0, 0, 0, 0, 0, 0, 0, 0, 0, 0, 0,
     255, 255, 255, 255, 255, 255, 255, 255, 255, 255, 255, 255, 255, 255, 255, 255

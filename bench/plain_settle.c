@@ -116,27 +116,27 @@ static void see_reports(struct walk *w, size_t from)
  * is a mark itself, four starts are settled at once. */
 static inline void walk_packets(struct walk *w, int64_t *row)
 {
-    const uint8_t *s = w->s;
     size_t from = w->p;
 
     while (w->p < w->until) {
-        size_t p = w->p;
-
-        if (w->n - p < 4) {
+        if (w->n - w->p < 4) {
             walk_marks(w);
             return;
         }
-        if (skip_to_marks(w)
-            || (s[(p = w->p) + 3] != 0xAA && s[p] == 0xAA && s[p + 1] == 0xAA && s[p + 2] == 0xAA)) {
-            if (ends_at_packet(w, row)) {
-                if (w->length == SHORT_PACKET)
-                    see_reports(w, from);
-                return;
+        if (!skip_to_marks(w)) {
+            const uint8_t *s = w->s + w->p;
+
+            if (s[3] == 0xAA || s[0] != 0xAA || s[1] != 0xAA || s[2] != 0xAA) {
+                w->p += s[3] == 0xAA ? 1 : 4;
+                continue;
             }
-            w->p += 4;
-        } else {
-            w->p += s[p + 3] == 0xAA ? 1 : 4;
         }
+        if (ends_at_packet(w, row)) {
+            if (w->length == SHORT_PACKET)
+                see_reports(w, from);
+            return;
+        }
+        w->p += 4;
     }
 }
 
@@ -175,7 +175,7 @@ static inline block sentences_near(const uint8_t *s)
          & (block)(block_at(s + 5) - '0' <= 9) & (block)(block_at(s + 7) != '$');
 }
 
-/* The same as for marks. */
+/* Goes on to the next of them in the same way. */
 static inline int skip_to_name(struct walk *w)
 {
     for (; w->n - w->p >= BLOCK + LONGEST_SENTENCE; w->p += BLOCK) {

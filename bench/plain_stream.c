@@ -9,8 +9,8 @@
  * looks at what it must and touches nothing twice.  Whatever else there may be
  * goes the long way, `settle`, before anything was altered but unused places.
  *
- * The short ways call nothing but in their last step, so that they need no room
- * on the stack and save no register. */
+ * The shortest ways call nothing but in their last step, and stand in functions
+ * of their own, so that they need no room on the stack and save no registers. */
 #include "plain_fields.h"
 #include "plain_held.h"
 #include "plain_stream.h"
