@@ -338,7 +338,7 @@ static void put_right(struct frame *f)
 /* Changes, drops or adds a byte before the last five; of packets only changes. */
 static void alter(struct frame *f)
 {
-    static const char likely[] = "0123456789012345678902356789 .,+-,xABKSORTLMHNtbarCDPWYFGAP\x7F$";
+    static const char likely[] = "0123456789012345678902356789 .,+-,:@xABKSORTLMHNtbarCDPWYFGAP\x7F$";
     size_t at = 1 + below(&chances, (unsigned)f->length - 5);
     uint8_t byte = (uint8_t)likely[below(&chances, sizeof likely - 1)];
     unsigned how = f->bytes[0] == '$' ? below(&chances, 4) : 3;
@@ -355,6 +355,14 @@ static void alter(struct frame *f)
         f->bytes[4 + (at - 1) % 67] = byte;
 }
 
+/* A whole frame offered to fresh readers in two calls. */
+static void offer_frame(unsigned family, const struct frame *f, size_t cut)
+{
+    fresh_both(family);
+    offer_both(f->bytes, cut, "an altered frame");
+    offer_both(f->bytes + cut, f->length - cut, "an altered frame");
+}
+
 static void altered(void)
 {
     unsigned long turn;
@@ -362,7 +370,6 @@ static void altered(void)
     for (turn = 0; turn < 3000000 / share; turn++) {
         unsigned family = 1 + below(&chances, 2), many = below(&chances, 4);
         struct frame f;
-        size_t cut;
 
         if (below(&chances, 64) == 0)
             family = 3;
@@ -370,10 +377,30 @@ static void altered(void)
         while (many-- > 0)
             alter(&f);
         put_right(&f);
-        fresh_both(family);
-        cut = below(&chances, 2) == 0 ? 0 : below(&chances, (unsigned)f.length + 1);
-        offer_both(f.bytes, cut, "an altered frame");
-        offer_both(f.bytes + cut, f.length - cut, "an altered frame");
+        offer_frame(family, &f, below(&chances, 2) == 0 ? 0 : below(&chances, (unsigned)f.length + 1));
+    }
+}
+
+/* Each byte of a frame in turn takes each value.  The grid voltage of a
+ * sentence 02 in the writer's widths is near its top. */
+static void every_byte(void)
+{
+    unsigned turn, value;
+    struct frame clean, f;
+    size_t i;
+
+    for (turn = 0; turn < 60 / share + 2; turn++) {
+        good_frame(&clean, 1 + turn % 2, &chances);
+        if (clean.bytes[0] == '$' && clean.bytes[5] == '2' && clean.length == 63)
+            memcpy(clean.bytes + 36, "25", 2);
+        for (i = 4; i < clean.length; i++)
+            for (value = 0; value < 256; value++) {
+                f = clean;
+                f.bytes[i] = (unsigned char)value;
+                if (i < clean.length - 5)
+                    put_right(&f);
+                offer_frame(1 + turn % 2, &f, 0);
+            }
     }
 }
 
@@ -390,6 +417,7 @@ int main(int argc, char **argv)
     states();
     printf("with states: %lu tried, %lu failed\n", tried, failed);
     altered();
+    every_byte();
     printf("numbers for no:");
     for (i = 0; i < 9; i++)
         printf(" %u: %lu", i, gave[i]);
