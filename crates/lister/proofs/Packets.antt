@@ -5,7 +5,6 @@ use Prim.Native.Nat.{ℕ, _≤_}
 use mathlib.Core.Path.{_≡_, refl, _∙_}
 use mathlib.Core.Bool.{true, false}
 use mathlib.Core.List.{List}
-use mathlib.Core.Logic.{⊎-elim}
 use native.Mathlib.Decide.{ℕ-discrete}
 use native.Mathlib.Omega.{arith}
 use borrow.Author.Tests.{ne-eqb}
@@ -18,7 +17,7 @@ use Rattle.stream_rules.specs.Heads.{needs, lengthAt}
 use Rattle.frames.proofs.Goods.{command-is, ack-is, report-is}
 use Rattle.head_laws.proofs.Heads.{good-head}
 use Rattle.head_laws.proofs.PacketStarts.{needs-packet, needs-report, needs-none}
-use Rattle.lister.specs.Sizes.{Spe, sizeAt}
+use Rattle.lister.specs.Sizes.{sizeAt}
 use Rattle.lister.proofs.Sizes.{size-none, size-good, size-refused}
 
 -- a packet declares what its count needs
@@ -62,7 +61,3 @@ module _ (bs : List ℕ) where
 
     pub no-report : getD bs 3 0 ≡ 0x43 → isStatus (take 75 bs) ≡ false → 0 ≡ sizeAt 1 bs
     no-report count e = size-refused 1 bs 75 (needs-report 1 (getD bs 3 0) refl count) (long ∙ e)
-
--- a family of packets and reports is not that of sentences
-pub no-sentences : (family : ℕ) → Spe family → family ≡ 2 → ⊥
-no-sentences family spe e = ⊎-elim (λ one. omega (arith, one, e)) (λ three. omega (arith, three, e)) spe

@@ -36,9 +36,12 @@ behind-no-mark family spe bs other j some few =
     not-marked family spe (drop j bs) (3 - j) (omega arith) (λ e. other (ap (λ (k : ℕ). getD bs k 0) (omega arith) ∙ sym (getD-drop j bs (3 - j) 0) ∙ e))
 
 -- The same for the starts from a place of some bytes on, as a walk passes over them.
-passes : (family : ℕ) (s : List ℕ) (at k : ℕ) → 0 < k → at + k ≤ length s → ((j : ℕ) → j < k → NotGood (head family (drop (at + j) s)))
+pub nothing-passed : (family : ℕ) (s : List ℕ) (at : ℕ) → at ≤ length s → Passes family s at at
+nothing-passed family s at there = record { on = omega arith; within = there; none = λ j from below. absurd (omega arith) }
+
+passes : (family : ℕ) (s : List ℕ) (at k : ℕ) → at + k ≤ length s → ((j : ℕ) → j < k → NotGood (head family (drop (at + j) s)))
     → Passes family s at (at + k)
-passes family s at k some there none = record {
+passes family s at k there none = record {
   on = omega arith;
   within = there;
   none = λ j from below.
@@ -58,19 +61,19 @@ and-behind family s at k none behind j p =
 -- A mark in a count's place: none here;
 pub over-mark : (family : ℕ) (spe : family ≡ 2 → ⊥) (s : List ℕ) (at : ℕ) → at < length s → getD s (at + 3) 0 ≡ markOf family → Passes family s at (at + 1)
 over-mark family spe s at there e =
-    passes family s at 1 (omega arith) (omega arith)
+    passes family s at 1 (omega arith)
     (and-behind family s at 1 (size-none family (drop at s) (no-mark-is-count family spe (drop at s) (getD-drop at s 3 0 ∙ e))) (λ j q p. absurd (omega arith)))
 
 -- none there: neither here, where no frame stands, nor at the next three;
 pub over-four : (family : ℕ) (spe : family ≡ 2 → ⊥) (s : List ℕ) (at : ℕ) → at + 4 ≤ length s → (getD s (at + 3) 0 ≡ markOf family → ⊥)
     → 0 ≡ sizeAt family (drop at s) → Passes family s at (at + 4)
 over-four family spe s at there other none =
-    passes family s at 4 (omega arith) there
+    passes family s at 4 there
     (and-behind family s at 4 none (behind-no-mark family spe (drop at s) (λ e. other (sym (getD-drop at s 3 0) ∙ e))))
 
 -- a start with no frame: none here;
 pub over-none : (s : List ℕ) (at : ℕ) → at < length s → 0 ≡ sizeAt 2 (drop at s) → Passes 2 s at (at + 1)
-over-none s at there none = passes 2 s at 1 (omega arith) (omega arith) (and-behind 2 s at 1 none (λ j q p. absurd (omega arith)))
+over-none s at there none = passes 2 s at 1 (omega arith) (and-behind 2 s at 1 none (λ j q p. absurd (omega arith)))
 
 -- another byte than `$`: none here;
 pub over-byte : (s : List ℕ) (at : ℕ) → at < length s → (getD s at 0 ≡ code "$" → ⊥) → Passes 2 s at (at + 1)
@@ -79,7 +82,7 @@ over-byte s at there other = over-none s at there (size-none 2 (drop at s) (bad-
 -- and a `$` with no frame: none here and in the run behind it.
 pub over-run : (s : List ℕ) (at n : ℕ) → at < length s → n ≤ length (payloadRun (drop 1 (drop at s))) → 0 ≡ sizeAt 2 (drop at s) → Passes 2 s at (at + (n + 1))
 over-run s at n there within none =
-    passes 2 s at (n + 1) (omega arith)
+    passes 2 s at (n + 1)
     (omega (arith, run-within (drop 1 (drop at s)), length-drop 1 (drop at s), length-drop at s))
     (and-behind 2 s at (n + 1) none (λ j some p. bad-not-good (in-the-run (drop at s) j some (omega arith) .0)))
 

@@ -2,21 +2,16 @@
 use Prim.Native.Nat.{ℕ, _≤_, _<_}
 use mathlib.Core.Path.{_≡_}
 use mathlib.Core.List.{List}
-use mathlib.Core.Logic.{_⊎_}
 use lib.ListN.{length, drop}
 use Rattle.stream_rules.specs.Heads.{head}
 use Rattle.stream_rules.specs.Rule.{byHead}
-
--- the families of packets and reports
-abbrev pub Spe : ℕ → Type 0
-Spe family = (family ≡ 1) ⊎ (family ≡ 3)
 
 -- how long the good frame at the head is; 0 where there is none
 abbrev pub sizeAt : ℕ → List ℕ → ℕ
 sizeAt family bs = byHead (head family bs) 0 0 (λ n f. n)
 
--- no frame stands at the starts from a place on and before a later one
+-- no frame stands at the starts from a place on and before another
 pub record Passes (family : ℕ) (bs : List ℕ) (from to : ℕ) : Type 0 where
-  pub on : from < to
+  pub on : from ≤ to
   pub within : to ≤ length bs
   pub none : (j : ℕ) → from ≤ j → j < to → 0 ≡ sizeAt family (drop j bs)

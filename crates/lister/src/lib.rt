@@ -6,9 +6,10 @@ use leaves::text;
 use seek::First;
 use seek::first_good;
 use starts::payload_bytes;
+use steps::command_size;
 use steps::may_be_sentence;
-use steps::next_start;
-use steps::packet_size;
+use steps::next_command;
+use steps::reply_size;
 use steps::sentence_size;
 use stream_rules::Listed;
 ghost use mathlib.Core.Path.{_≡_};
@@ -18,7 +19,6 @@ ghost use lib.ListN.{length, set};
 ghost use Rattle.rules.specs.Answers.{isFamily};
 ghost use Rattle.stream_rules.specs.Lister.{frames, Lists, NextFrame};
 ghost use Rattle.lister.specs.Fills.{Fills};
-ghost use Rattle.lister.specs.Sizes.{Spe};
 
 // Notes a start in its place, where the list has that place.
 fn note(starts: &mut [u32], n: usize, at: usize)
@@ -30,17 +30,42 @@ fn note(starts: &mut [u32], n: usize, at: usize)
     }
 }
 
-// Fills in the starts of packets and reports, as far as there are places, and gives how many there are.
-fn fill_packets(family: u8, capture: &[u8], starts: &mut [u32]) -> usize
-    requires { ⌜ Spe family × (length (now capture) ≤ 65536) ⌝ }
-    ensures { λ r. ⌜ Fills family (now (capture .entry)) (now (starts .entry)) r (now (starts .exit)) ⌝ }
+// Fills in the starts of commands, as far as there are places, and gives how many there are.
+fn fill_commands(capture: &[u8], starts: &mut [u32]) -> usize
+    requires { ⌜ length (now capture) ≤ 65536 ⌝ }
+    ensures { λ r. ⌜ Fills 3 (now (capture .entry)) (now (starts .entry)) r (now (starts .exit)) ⌝ }
 {
     let mut at = 0;
     let mut n = 0;
     while 6 <= capture.len() - at {
-        let size = packet_size(family, &capture[at..]);
+        let size = command_size(&capture[at..]);
         if size == 0 {
-            at = next_start(family, capture, at);
+            at = next_command(capture, at);
+            continue;
+        }
+        note(starts, n, at);
+        n += 1;
+        at += size;
+    }
+    n
+}
+
+// The same for acknowledgements and reports. No count is a mark; and where none stands in a count's place, no
+// frame starts in the three places behind the start.
+fn fill_replies(capture: &[u8], starts: &mut [u32]) -> usize
+    requires { ⌜ length (now capture) ≤ 65536 ⌝ }
+    ensures { λ r. ⌜ Fills 1 (now (capture .entry)) (now (starts .entry)) r (now (starts .exit)) ⌝ }
+{
+    let mut at = 0;
+    let mut n = 0;
+    while 6 <= capture.len() - at {
+        if capture[at + 3] == 0xAA {
+            at += 1;
+            continue;
+        }
+        let size = reply_size(&capture[at..]);
+        if size == 0 {
+            at += 4;
             continue;
         }
         note(starts, n, at);
@@ -79,8 +104,7 @@ fn fill_sentences(capture: &[u8], starts: &mut [u32]) -> usize
     n
 }
 
-// Fills in the starts, as far as there are places, and gives how many there are. Each call says its
-// family, so that the compiler makes a walk for each, with the lengths of its frames.
+// Fills in the starts, as far as there are places, and gives how many there are.
 fn fill_starts(family: u8, capture: &[u8], starts: &mut [u32]) -> usize
     requires { ⌜ (isFamily family ≡ true) × (length (now capture) ≤ 65536) ⌝ }
     ensures { λ r. ⌜ Fills family (now (capture .entry)) (now (starts .entry)) r (now (starts .exit)) ⌝ }
@@ -89,9 +113,9 @@ fn fill_starts(family: u8, capture: &[u8], starts: &mut [u32]) -> usize
         return fill_sentences(capture, starts);
     }
     if family == 3 {
-        return fill_packets(3, capture, starts);
+        return fill_commands(capture, starts);
     }
-    fill_packets(1, capture, starts)
+    fill_replies(capture, starts)
 }
 
 // How many frames a capture holds: the starts are filled into a list that is thrown away.

@@ -3,18 +3,17 @@
 use leaves::text;
 use spe_tests::is_ack;
 use spe_tests::is_command;
-use starts::mark_of;
 use status_tests::is_status;
 ghost use mathlib.Core.Path.{_≡_};
 ghost use mathlib.Core.Bool.{false};
-ghost use Prim.Native.Nat.{_+_, min, _≤_};
+ghost use Prim.Native.Nat.{_+_, min, _≤_, _<_};
 ghost use lib.ListN.{length, drop};
 ghost use Rattle.stream_rules.specs.Heads.{payloadRun};
-ghost use Rattle.lister.specs.Sizes.{Spe, sizeAt, Passes};
+ghost use Rattle.lister.specs.Sizes.{sizeAt, Passes};
 
 // How long the good command at the head is; 0 where there is none. Its bytes are looked at together:
 // most starts that are tried are good.
-fn command_size(s: &[u8]) -> usize
+pub(crate) fn command_size(s: &[u8]) -> usize
     ensures { λ r. ⌜ r ≡ sizeAt 3 (now (s .entry)) ⌝ }
 {
     if s.len() < 6 {
@@ -28,7 +27,7 @@ fn command_size(s: &[u8]) -> usize
 
 // How long the good acknowledgement or report at the head is; 0 where there is none. The count tells
 // which it can be.
-fn reply_size(s: &[u8]) -> usize
+pub(crate) fn reply_size(s: &[u8]) -> usize
     ensures { λ r. ⌜ r ≡ sizeAt 1 (now (s .entry)) ⌝ }
 {
     if s.len() < 6 {
@@ -55,17 +54,6 @@ fn reply_size(s: &[u8]) -> usize
         return 75;
     }
     0
-}
-
-// How long the good packet or report of a family at the head is; 0 where there is none.
-pub(crate) fn packet_size(family: u8, s: &[u8]) -> usize
-    requires { ⌜ Spe family ⌝ }
-    ensures { λ r. ⌜ r ≡ sizeAt family (now (s .entry)) ⌝ }
-{
-    if family == 3 {
-        return command_size(s);
-    }
-    reply_size(s)
 }
 
 // False only where no good sentence starts, by what stands in its name's place: that begins with an A, and no
@@ -103,23 +91,29 @@ pub(crate) fn sentence_size(s: &[u8], n: usize) -> usize
     0
 }
 
-// Behind a start with no packet or report, the next at which one may stand. No count is a mark: where
-// one stands in a count's place, no frame starts there; and where none does, no frame starts in the
-// three places before it or at it.
-pub(crate) fn next_start(family: u8, s: &[u8], from: usize) -> usize
-    requires { ⌜ Spe family × (from + 6 ≤ length (now s)) × (0 ≡ sizeAt family (drop from (now s))) ⌝ }
-    ensures { λ r. ⌜ Passes family (now (s .entry)) from r ⌝ }
+// The first start from a place on that has no mark in its count's place: no count is a mark.
+fn past_marks(s: &[u8], from: usize) -> usize
+    requires { ⌜ from ≤ length (now s) ⌝ }
+    ensures { λ r. ⌜ Passes 3 (now (s .entry)) from r ⌝ }
 {
-    let mark = mark_of(family);
-    if s[from + 3] != mark {
-        return from + 4;
-    }
-    let mut at = from + 1;
+    let mut at = from;
     while 6 <= s.len() - at {
-        if s[at + 3] != mark {
+        if s[at + 3] != 0x55 {
             return at;
         }
         at += 1;
     }
     at
+}
+
+// Behind a start with no command, the next at which one may stand. Where no mark stands in a count's place, none
+// starts in the three places behind the start.
+pub(crate) fn next_command(s: &[u8], from: usize) -> usize
+    requires { ⌜ (from + 6 ≤ length (now s)) × (0 ≡ sizeAt 3 (drop from (now s))) ⌝ }
+    ensures { λ r. ⌜ (from < r) × Passes 3 (now (s .entry)) from r ⌝ }
+{
+    if s[from + 3] != 0x55 {
+        return past_marks(s, from + 4);
+    }
+    past_marks(s, from + 1)
 }

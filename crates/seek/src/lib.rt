@@ -37,14 +37,12 @@ pub enum First {
     Nothing,
 }
 
-// True only of bytes that are no good frame: of an SPE family an end that is not a report's, or a code that
-// is not allowed or does not stand twice. The values of a report are not looked at, nor a sentence.
+// True only of bytes that are no good packet or report: an end that is not a report's, or a code that is not
+// allowed or does not stand twice. The values of a report are not looked at.
 fn ruled_out(family: u8, s: &[u8]) -> bool
+    requires { ⌜ (family ≡ 2 → ⊥) ⌝ }
     ensures { λ r. ⌜ (r ≡ true → isGood (readOne family (now (s .entry))) ≡ false) ⌝ }
 {
-    if family == 2 {
-        return false;
-    }
     if s.len() == 75 {
         return !((s[73] == 0x0D) & (s[74] == 0x0A));
     }
@@ -95,7 +93,7 @@ fn packet_stop(family: u8, s: &[u8], from: usize, far: usize) -> Stop
     let mut reach = far;
     while at < s.len() {
         if mark_for_count(mark, &s[at..]) {
-            at += 1;
+            at += 1; // the first mark may be noise before three others
             continue;
         }
         match examine(family, &s[at..]) {

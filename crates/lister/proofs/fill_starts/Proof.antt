@@ -1,10 +1,9 @@
 -- `lister::fill_starts` meets its contract: the tests of the family pick the walk.
 -- Assumes nothing.
 use Prim.Native.Nat.{ℕ}
-use mathlib.Core.Path.{_≡_, refl}
+use mathlib.Core.Path.{_≡_}
 use mathlib.Core.Bool.{true, false}
 use mathlib.Core.List.{List}
-use mathlib.Core.Logic.{inl, inr}
 use native.Mathlib.Decide.{ℕ-discrete}
 use native.Mathlib.Omega.{arith}
 use borrow.Author.Needs.{needs}
@@ -40,17 +39,17 @@ same-length c = search needs
 returns : tie.Need-returns
 returns c = named (c .before .before .before .before .if1 .taken) (c .before .before .fill-sentences .ensures)
 
-fill-packets-requires : tie.Need-fill-packets-requires
-fill-packets-requires c κs = (inr refl, c .before .before .before .before .before .pre .1)
+fill-commands-requires : tie.Need-fill-commands-requires
+fill-commands-requires c κs = search needs
 
 same-length-2 : tie.Need-same-length-2
 same-length-2 c = search needs
 
 returns-2 : tie.Need-returns-2
-returns-2 c = named (c .before .before .before .before .if2 .taken) (c .before .before .fill-packets .ensures)
+returns-2 c = named (c .before .before .before .before .if2 .taken) (c .before .before .fill-commands .ensures)
 
-fill-packets-requires-2 : tie.Need-fill-packets-requires-2
-fill-packets-requires-2 c κs = (inl refl, c .before .before .before .before .before .pre .1)
+fill-replies-requires : tie.Need-fill-replies-requires
+fill-replies-requires c κs = search needs
 
 same-length-3 : tie.Need-same-length-3
 same-length-3 c = search needs
@@ -58,7 +57,7 @@ same-length-3 c = search needs
 returns-3 : tie.Need-returns-3
 returns-3 c =
     let other = c .before .before .before .before in
-    named (first _ (c .before .before .before .before .before .before .before .before .pre .0) (other .before .if1 .left) (other .if2 .left)) (c .before .before .fill-packets2 .ensures)
+    named (first _ (c .before .before .before .before .before .before .before .before .pre .0) (other .before .if1 .left) (other .if2 .left)) (c .before .before .fill-replies .ensures)
 
 pub fill-starts-spec : {M : Type 1} → statement M
 fill-starts-spec =
@@ -67,9 +66,9 @@ fill-starts-spec =
     fill-sentences-requires
     same-length
     returns
-    fill-packets-requires
+    fill-commands-requires
     same-length-2
     returns-2
-    fill-packets-requires-2
+    fill-replies-requires
     same-length-3
     returns-3)
