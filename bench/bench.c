@@ -7,9 +7,10 @@
  * divided by the plain one's, how the time per byte grows from captures of 4,096 bytes to captures of
  * 65,536, and the stream reader's time divided by the proved lister's, in calls of 1, 16 and 4,096
  * bytes; beside that the times of a stream reader in plain C, made for speed (plain_stream.c), and of as
- * many calls that do next to nothing (least.c), divided by the same. The measures take turns, so that whatever else the machine does falls on all of them, and the
- * best turn of each with each capture counts: anything else only makes one slower. The clock is that of
- * the process, which stands while another process has the processor.
+ * many calls that do next to nothing (least.c), divided by the same. The measures take turns, so that
+ * whatever else the machine does falls on all of them, and the best turn of each with each capture counts:
+ * anything else only makes one slower. The clock is that of the process, which stands while another
+ * process has the processor.
  *
  * All of them have to find the same starts; the first difference ends it with status 1. */
 #include "amp.h"
@@ -209,7 +210,8 @@ static int agree(unsigned family, unsigned i)
 #define ASKED 4.0 /* the stream is to take at most so many times the lister's time */
 
 static double worst, sum_proved, sum_plain;
-static unsigned within, beyond, over; /* of the stream's measures: at most that; more, as the plain stream too; more */
+/* Of the stream's measures: at most that; more, and so is the plain stream's; more, and that is not. */
+static unsigned within, beyond, over;
 
 static void print_stream(double proved)
 {

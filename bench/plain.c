@@ -9,6 +9,7 @@
  * place that does so says why. */
 #include "plain.h"
 #include "plain_sets.h"
+#include "plain_tables.h"
 
 #define LONGEST_CAPTURE 65536u
 #define SHORTEST_PACKET 6u            /* acknowledgement or command */
@@ -19,19 +20,6 @@
 #define MOST_FRAMES (LONGEST_CAPTURE / SHORTEST_PACKET)
 
 /* ---- SPE packets -------------------------------------------------------- */
-
-/* For each code: which packets may carry it. */
-#define COMMAND 1
-#define ACKNOWLEDGED 2
-#define BOTH (COMMAND | ACKNOWLEDGED)
-static const unsigned char code_use[256] = {
-    [0x01] = BOTH, [0x02] = BOTH, [0x03] = BOTH, [0x04] = BOTH,
-    [0x05] = BOTH, [0x06] = BOTH, [0x07] = BOTH, [0x08] = BOTH,
-    [0x09] = BOTH, [0x0A] = BOTH, [0x0B] = BOTH, [0x0C] = BOTH,
-    [0x0D] = BOTH, [0x0E] = BOTH, [0x0F] = BOTH, [0x10] = BOTH,
-    [0x11] = BOTH, [0x82] = BOTH, [0x83] = BOTH,
-    [0x90] = COMMAND                  /* answered by a report, never echoed */
-};
 
 #define LAYOUT(id1, id2, bank, antenna, pad, last) { \
     C_, NEEDS(id1), NEEDS(id2), NEEDS(LETTER_K), \
@@ -121,7 +109,7 @@ static size_t list_commands(const unsigned char *s, size_t n,
     size_t found = 0, p = 0;
 
     while ((p = past_marks(s, p, n, 0x55)) < n) {
-        if (s[p + 3] != 1 || s[p + 4] != s[p + 5] || !code_use[s[p + 4]]) {
+        if (s[p + 3] != 1 || s[p + 4] != s[p + 5] || !code_uses[s[p + 4]]) {
             p += 4;
             continue;
         }
@@ -139,7 +127,7 @@ static size_t packet_length(const unsigned char *s, size_t left)
 {
     if (s[3] == 0x43)
         return left >= REPORT_LENGTH && good_report(s + 4) ? REPORT_LENGTH : 0;
-    if (s[3] == 1 && s[4] == s[5] && (code_use[s[4]] & ACKNOWLEDGED))
+    if (s[3] == 1 && s[4] == s[5] && (code_uses[s[4]] & ACKNOWLEDGED))
         return SHORTEST_PACKET;
     return 0;
 }
@@ -177,22 +165,6 @@ static const unsigned char in_payload[256] = {
 };
 
 static const char hex_digits[] = "0123456789ABCDEF";
-
-/* A decimal field: how many digits at most, and the values it may have. */
-struct decimal {
-    unsigned width, least, most;
-};
-
-static const struct decimal fields_02[] = {
-    {5, 0, 99999}, {3, 0, 999}, {4, 0, 9999}, {4, 0, 9999}, {4, 0, 9999},
-    {3, 0, 999}, {3, 0, 255}, {3, 0, 999}, {1, 1, 9}, {1, 0, 9},
-    {2, 0, 99}, {1, 0, 1}, {5, 0, 99999}
-};
-
-static const struct decimal fields_03[] = {
-    {3, 0, 999}, {3, 0, 999}, {3, 0, 999}, {3, 0, 999}, {3, 0, 999},
-    {4, 0, 9999}, {3, 0, 999}, {1, 1, 5}
-};
 
 /* The layouts of 02, 03 and 05 with all fields at full width, from the two
  * digits of the number on, and where their * stands. */

@@ -123,7 +123,7 @@ WITHIN void move_block(uint8_t *restrict to, const uint8_t *restrict from)
     memcpy(to, from, BLOCK);
 }
 
-/* Moves many bytes, less than sixteen. */
+/* Moves many bytes, fewer than sixteen. */
 WITHIN void move_few(uint8_t *restrict to, const uint8_t *restrict from, size_t many)
 {
     if (many == 1) {

@@ -7,15 +7,6 @@
 #include "plain_fields.h"
 #include "plain_places.h"
 
-#define BOTH (COMMANDED | ACKNOWLEDGED)
-const uint8_t code_uses[256] = {
-    [0x01] = BOTH, [0x02] = BOTH, [0x03] = BOTH, [0x04] = BOTH, [0x05] = BOTH,
-    [0x06] = BOTH, [0x07] = BOTH, [0x08] = BOTH, [0x09] = BOTH, [0x0A] = BOTH,
-    [0x0B] = BOTH, [0x0C] = BOTH, [0x0D] = BOTH, [0x0E] = BOTH, [0x0F] = BOTH,
-    [0x10] = BOTH, [0x11] = BOTH, [0x82] = BOTH, [0x83] = BOTH,
-    [0x90] = COMMANDED                /* answered by a report, never echoed */
-};
-
 /* ---- Layouts ------------------------------------------------------------ */
 
 /* From the data to the line end.  The sum is any two bytes here. */
@@ -24,8 +15,8 @@ const uint8_t code_uses[256] = {
     C_(AT) UPPER_CASE(AT) C_(AT) AT(bank, banks) C_(AT) AT('1', '2') \
     C_(AT) AT('0', '1') N_(AT) C_(AT) AT('0', antenna) LOWER_CASE(AT) \
     C_(AT) AT('0', antenna) IS(AT, 'r') C_(AT) UPPER_CASE(AT) \
-    N4(AT) C_(AT) N2(AT) P_(AT) N2(AT) C_(AT) N2(AT) P_(AT) N2(AT) \
-    C_(AT) N2(AT) P_(AT) N_(AT) C_(AT) N2(AT) P_(AT) N_(AT) N3(AT) \
+    F4(AT) C_(AT) N2(AT) P_(AT) N2(AT) C_(AT) N2(AT) P_(AT) N2(AT) \
+    C_(AT) N2(AT) P_(AT) N_(AT) C_(AT) N2(AT) P_(AT) N_(AT) F3(AT) \
     C_(AT) AT('0', last) AT('0', last) AT('0', last) \
     C_(AT) AT('0', last) AT('0', last) AT('0', last) \
     C_(AT) UPPER_CASE(AT) C_(AT) UPPER_CASE(AT) C_(AT) \

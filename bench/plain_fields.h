@@ -5,10 +5,6 @@
 #include <stddef.h>
 #include <stdint.h>
 
-/* Which packets may carry a code. */
-enum { COMMANDED = 1, ACKNOWLEDGED = 2 };
-extern const uint8_t code_uses[256];
-
 /* Whether the 75 bytes at b are a good report.  If so, its kind, its code and
  * its values are laid in the row, which has room; else nothing is. */
 int read_report(const uint8_t *b, int64_t *row);

@@ -18,10 +18,10 @@
 #define P_(AT) AT('.', '.')
 #define N_(AT) AT('0', '9')
 #define N2(AT) N_(AT) N_(AT)
-#define N3(AT) C_(AT) N2(AT) N_(AT)
-#define N4(AT) C_(AT) N2(AT) N2(AT)
+#define F3(AT) C_(AT) N2(AT) N_(AT)
+#define F4(AT) C_(AT) N2(AT) N2(AT)
 #define H_(AT) AT('0', 'F')           /* and no byte between digits and letters */
-#define H2(AT) C_(AT) H_(AT) H_(AT)
+#define FH(AT) C_(AT) H_(AT) H_(AT)
 #define UPPER_CASE(AT) AT('A', 'Z')   /* one of a set of letters */
 #define LOWER_CASE(AT) AT('a', 'z')
 #define ANY(AT) AT(0, 255)

@@ -7,6 +7,7 @@
 #include "amp.h"
 #include "plain_fields.h"
 #include "plain_places.h"
+#include "plain_tables.h"
 
 /* ---- Layouts ------------------------------------------------------------ */
 
@@ -14,14 +15,14 @@
     IS(AT, '0') IS(AT, digit)
 #define SUMS(AT) IS(AT, '*') ANY(AT) ANY(AT) ANY(AT) ANY(AT)
 #define SENTENCE_02(AT) SENTENCE(AT, '2') \
-    N4(AT) N_(AT) N3(AT) N4(AT) N4(AT) N4(AT) N3(AT) N3(AT) N3(AT) \
+    F4(AT) N_(AT) F3(AT) F4(AT) F4(AT) F4(AT) F3(AT) F3(AT) F3(AT) \
     C_(AT) AT('1', '9') C_(AT) N_(AT) C_(AT) N2(AT) C_(AT) AT('0', '1') \
-    N4(AT) N_(AT) SUMS(AT)
+    F4(AT) N_(AT) SUMS(AT)
 #define SENTENCE_03(AT) SENTENCE(AT, '3') \
-    N3(AT) N3(AT) N3(AT) N3(AT) N3(AT) N4(AT) N3(AT) C_(AT) AT('1', '5') \
+    F3(AT) F3(AT) F3(AT) F3(AT) F3(AT) F4(AT) F3(AT) C_(AT) AT('1', '5') \
     C_(AT) AT('+', '-') N2(AT) N_(AT) P_(AT) N_(AT) SUMS(AT)
 #define SENTENCE_05(AT) SENTENCE(AT, '5') \
-    H2(AT) H2(AT) H2(AT) H2(AT) H2(AT) H2(AT) H2(AT) SUMS(AT)
+    FH(AT) FH(AT) FH(AT) FH(AT) FH(AT) FH(AT) FH(AT) SUMS(AT)
 
 static const struct ranges sentence_02 = RANGES(SENTENCE_02), sentence_03 = RANGES(SENTENCE_03),
     sentence_05 = RANGES(SENTENCE_05);
@@ -187,20 +188,6 @@ size_t read_written(const uint8_t *b, size_t left, int64_t *row)
 }
 
 /* ---- Any sentence ------------------------------------------------------- */
-
-/* A decimal field: how many digits at most, and the values it may have. */
-struct decimal {
-    unsigned width, least, most;
-};
-static const struct decimal fields_02[] = {
-    {5, 0, 99999}, {3, 0, 999}, {4, 0, 9999}, {4, 0, 9999}, {4, 0, 9999},
-    {3, 0, 999}, {3, 0, 255}, {3, 0, 999}, {1, 1, 9}, {1, 0, 9},
-    {2, 0, 99}, {1, 0, 1}, {5, 0, 99999}
-};
-static const struct decimal fields_03[] = {
-    {3, 0, 999}, {3, 0, 999}, {3, 0, 999}, {3, 0, 999}, {3, 0, 999},
-    {4, 0, 9999}, {3, 0, 999}, {1, 1, 5}
-};
 
 static inline int is_digit(uint8_t b)
 {

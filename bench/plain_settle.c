@@ -5,9 +5,11 @@
  * at one where a start is undecided it wants more, and from any other it steps
  * on.  Starts among the held bytes are looked at in a copy, with as many of the
  * offered ones behind them as the longest frame has; all others where they
- * stand. */
+ * stand.  Commands have no walk: sixteen starts are looked at together, and the
+ * last bytes are copied too. */
 #include "plain_fields.h"
 #include "plain_held.h"
+#include "plain_tables.h"
 
 static inline void hold(amp_reader *reader, const uint8_t *from, size_t many)
 {
@@ -30,8 +32,8 @@ struct walk {
 
 /* ---- Family 1 ----------------------------------------------------------- */
 
-/* The end of a stretch, with less than four bytes: whoever is all marks there
- * is undecided. */
+/* The end of a stretch, with fewer than four bytes: a start that is all marks
+ * there is undecided. */
 static void walk_marks(struct walk *w)
 {
     size_t p = w->n;

@@ -14,12 +14,12 @@
 #include "plain_fields.h"
 #include "plain_held.h"
 #include "plain_stream.h"
+#include "plain_tables.h"
 
 /* ---- What the short ways share ------------------------------------------ */
 
 /* Clears the held places from used on, at most 112: whole blocks from the last
- * place down, of which the last begins at used.  (A loop of these is what a
- * compiler knows as memset, and calls; that would cost more than they do.) */
+ * place down, of which the last begins at used. */
 #define CLEAR(place) \
     if (used > (place)) { \
         put_block(held + used, none); \
@@ -173,7 +173,7 @@ APART uint32_t feed_packets(amp_reader *reader, const uint8_t *offered, size_t n
 
 /* Whether the held bytes, count from 1 to 127 and the first a dollar sign, are
  * else all ones that a payload may hold.  Blocks are looked at as one_more
- * writes them: a load that takes a part of what was just written waits. */
+ * writes them: a load of which only a part was just written waits. */
 WITHIN int all_payload(const uint8_t *held, size_t count)
 {
     block fit = payload_of(block_at(held)) | first_of_block(1);

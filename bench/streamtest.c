@@ -5,10 +5,11 @@
  *
  *     streamtest [SHARE]
  *
- * The calls are of three sorts: made captures in pieces of many sizes, closed
- * and drained; single calls on states of any bytes or nearly right ones, with
- * rows of any length; and frames with bytes altered and their sums put right
- * again.  With a share about one of that many turns is taken.  What is offered
+ * The calls are of four sorts: made captures in pieces of many sizes, closed
+ * and drained; one to four calls on states of any bytes or nearly right ones,
+ * with rows of any length; frames with bytes altered and their sums put right
+ * again; and frames of which each byte in turn takes each value.  With a share
+ * about one of that many turns is taken.  What is offered
  * ends where the memory that may be read ends. */
 #include "amp.h"
 #include "captures.h"
@@ -335,7 +336,7 @@ static void put_right(struct frame *f)
     f->bytes[72] = (uint8_t)(sum >> 8);
 }
 
-/* Changes, drops or adds a byte before the last five; of packets only changes. */
+/* Changes, drops or adds a byte before the last four; of packets only changes. */
 static void alter(struct frame *f)
 {
     static const char likely[] = "0123456789012345678902356789 .,+-,:@xABKSORTLMHNtbarCDPWYFGAP\x7F$";
@@ -381,8 +382,8 @@ static void altered(void)
     }
 }
 
-/* Each byte of a frame in turn takes each value.  The grid voltage of a
- * sentence 02 in the writer's widths is near its top. */
+/* Each byte of a frame behind the first four in turn takes each value.  The
+ * grid voltage of a sentence 02 in the writer's widths is near its top. */
 static void every_byte(void)
 {
     unsigned turn, value;
@@ -393,6 +394,7 @@ static void every_byte(void)
         good_frame(&clean, 1 + turn % 2, &chances);
         if (clean.bytes[0] == '$' && clean.bytes[5] == '2' && clean.length == 63)
             memcpy(clean.bytes + 36, "25", 2);
+        put_right(&clean);
         for (i = 4; i < clean.length; i++)
             for (value = 0; value < 256; value++) {
                 f = clean;

@@ -132,7 +132,7 @@ module _ (family : ℕ) (spe : family ≡ 2 → ⊥) (bs : List ℕ) where
       bad-start family bs d e
       (λ same. let is : d ≡ needs family (getD bs 3 0) = same ∙ counted in omega (arith, needs-six family (getD bs 3 0) (omega (arith, is, some)), is, low))
 
-  -- A start that is seen to be bad was settled by four bytes or fewer: by a mark that is none, or by its count.
+  -- A start that is seen to be bad was settled by four bytes or fewer: by a byte that is no mark, or by its count.
   settled-is : settled family bs ≡ spe-settled family bs
   unfolding settled
   settled-is = rw (ne-eqb family 2 spe)

@@ -7,27 +7,23 @@ use mathlib.Core.Bool.{true, false}
 use mathlib.Core.List.{List}
 use native.Mathlib.Decide.{ℕ-discrete}
 use native.Mathlib.Omega.{arith}
-use borrow.Author.Tests.{ne-eqb}
 use lib.ListN.{length, take, getD}
 use lib.Seq.{length-take-le}
 use Rattle.rules.specs.Answers.{isGood, readOne}
 use Rattle.rules.specs.Codes.{isAck, isCommand}
 use Rattle.rules.specs.Status.{isStatus}
-use Rattle.stream_rules.specs.Heads.{needs, lengthAt}
+use Rattle.stream_rules.specs.Heads.{needs}
 use Rattle.frames.proofs.Goods.{command-is, ack-is, report-is}
 use Rattle.head_laws.proofs.Heads.{good-head}
 use Rattle.head_laws.proofs.PacketStarts.{needs-packet, needs-report, needs-none}
+use Rattle.heads.proofs.Starts.{counted}
 use Rattle.lister.specs.Sizes.{sizeAt}
 use Rattle.lister.proofs.Sizes.{size-none, size-good, size-refused}
-
--- a packet declares what its count needs
-declares : (family : ℕ) (bs : List ℕ) → (family ≡ 2 → ⊥) → lengthAt family bs ≡ needs family (getD bs 3 0)
-declares family bs spe = rw (ne-eqb family 2 spe)
 
 module _ (bs : List ℕ) where
   -- a count that is not allowed: no frame
   pub not-allowed : (family : ℕ) → (family ≡ 2 → ⊥) → needs family (getD bs 3 0) ≡ 0 → 0 ≡ sizeAt family bs
-  not-allowed family spe none = size-none family bs (λ n f e. let g = good-head family bs n f e in omega (arith, g .some, g .declared ∙ declares family bs spe, none))
+  not-allowed family spe none = size-none family bs (λ n f e. let g = good-head family bs n f e in omega (arith, g .some, g .declared ∙ counted family spe bs, none))
 
   -- six bytes that are a command, or are none
   pub command : 6 ≤ length bs → isCommand (take 6 bs) ≡ true → 6 ≡ sizeAt 3 bs

@@ -1,18 +1,17 @@
 -- The length of the good frame at the head of some bytes: the one that the bytes declare, where the bytes of that length
 -- are a good frame, and else 0.
 -- Assumes nothing.
-use Prim.Native.Nat.{ℕ, _+_, _≤_, _<_}
+use Prim.Native.Nat.{ℕ, _≤_, _<_}
 use mathlib.Core.Path.{_≡_, refl, sym, ap, _∙_}
-use mathlib.Core.Bool.{Bool, true, false, cond}
+use mathlib.Core.Bool.{true, false}
 use mathlib.Core.List.{List}
 use native.Mathlib.Omega.{arith}
-use lib.Dec.{eqb}
-use lib.ListN.{length, take, drop, getD}
+use lib.ListN.{length, take}
 use Rattle.rules.specs.Answers.{isGood, readOne}
 use Rattle.rules.specs.declared.Frame.{Frame}
 use Rattle.rules.specs.declared.Reading.{Reading}
 use Rattle.rules.specs.declared.Reading.the-variants.{Good, Refused}
-use Rattle.stream_rules.specs.Heads.{needs, payloadRun, lengthAt, Head, wait, bad, good, head}
+use Rattle.stream_rules.specs.Heads.{lengthAt, Head, wait, bad, good, head}
 use Rattle.stream_rules.specs.Rule.{byHead}
 use Rattle.head_laws.proofs.Heads.{complete, GoodHead, good-head}
 use Rattle.heads.proofs.Starts.{at-least-six}

@@ -10,32 +10,13 @@ use native.Mathlib.Omega.{arith}
 use lib.ListN.{length, drop, getD, length-drop}
 use lib.Seq.{drop-drop, getD-drop}
 use Rattle.stream_rules.specs.Heads.{markOf, payloadRun, head}
-use Rattle.head_laws.proofs.Heads.{good-head}
 use Rattle.head_laws.proofs.Runs.{run-within}
-use Rattle.head_laws.proofs.PacketStarts.{good-start}
 use Rattle.seek_laws.proofs.Starts.{NotGood, bad-not-good}
-use Rattle.seek.proofs.Passing.{mark-needs-none, not-dollar, in-the-run}
+use Rattle.seek.proofs.Passing.{mark-is-no-count, behind-no-mark, not-dollar, in-the-run}
 use Rattle.lister.specs.Sizes.{sizeAt, Passes}
 use Rattle.lister.proofs.Sizes.{size-none, no-size}
 
-module _ (family : ℕ) (spe : family ≡ 2 → ⊥) (bs : List ℕ) where
-  -- a good start has three marks
-  pub not-marked : (k : ℕ) → k < 3 → (getD bs k 0 ≡ markOf family → ⊥) → NotGood (head family bs)
-  not-marked k low other n f e = other (good-start family spe bs n f (good-head family bs n f e .read) .0 k low)
-
-  -- and behind them a count, which is no mark
-  pub no-mark-is-count : getD bs 3 0 ≡ markOf family → NotGood (head family bs)
-  no-mark-is-count is-mark n f e =
-      let start = good-start family spe bs n f (good-head family bs n f e .read) in
-      omega (arith, start .1, start .2, mark-needs-none family (getD bs 3 0) is-mark)
-
--- Where the fourth byte is no mark, no good frame starts at it or at the two before it.
-pub behind-no-mark : (family : ℕ) (spe : family ≡ 2 → ⊥) (bs : List ℕ) → (getD bs 3 0 ≡ markOf family → ⊥)
-    → (j : ℕ) → 0 < j → j < 4 → NotGood (head family (drop j bs))
-behind-no-mark family spe bs other j some few =
-    not-marked family spe (drop j bs) (3 - j) (omega arith) (λ e. other (ap (λ (k : ℕ). getD bs k 0) (omega arith) ∙ sym (getD-drop j bs (3 - j) 0) ∙ e))
-
--- The same for the starts from a place of some bytes on, as a walk passes over them.
+-- The starts from a place of some bytes on, as a walk passes over them.
 pub nothing-passed : (family : ℕ) (s : List ℕ) (at : ℕ) → at ≤ length s → Passes family s at at
 nothing-passed family s at there = record { on = omega arith; within = there; none = λ j from below. absurd (omega arith) }
 
@@ -58,26 +39,27 @@ and-behind family s at k none behind j p =
       | no later ↦ rw (← drop-drop j at s) (behind j (omega arith) p)
     ]
 
--- A mark in a count's place: none here;
-pub over-mark : (family : ℕ) (spe : family ≡ 2 → ⊥) (s : List ℕ) (at : ℕ) → at < length s → getD s (at + 3) 0 ≡ markOf family → Passes family s at (at + 1)
+-- a start with no frame: none here;
+pub over-none : (family : ℕ) (s : List ℕ) (at : ℕ) → at < length s → 0 ≡ sizeAt family (drop at s) → Passes family s at (at + 1)
+over-none family s at there none = passes family s at 1 (omega arith) (and-behind family s at 1 none (λ j q p. absurd (omega arith)))
+
+-- a mark in a count's place: none here;
+pub over-mark : (family : ℕ) (spe : family ≡ 2 → ⊥) (s : List ℕ) (at : ℕ) → at + 4 ≤ length s → getD s (at + 3) 0 ≡ markOf family → Passes family s at (at + 1)
 over-mark family spe s at there e =
-    passes family s at 1 (omega arith)
-    (and-behind family s at 1 (size-none family (drop at s) (no-mark-is-count family spe (drop at s) (getD-drop at s 3 0 ∙ e))) (λ j q p. absurd (omega arith)))
+    over-none family s at (omega arith)
+    (size-none family (drop at s) (bad-not-good (mark-is-no-count family spe (drop at s) (omega (arith, length-drop at s)) (getD-drop at s 3 0 ∙ e) .0)))
 
 -- none there: neither here, where no frame stands, nor at the next three;
 pub over-four : (family : ℕ) (spe : family ≡ 2 → ⊥) (s : List ℕ) (at : ℕ) → at + 4 ≤ length s → (getD s (at + 3) 0 ≡ markOf family → ⊥)
     → 0 ≡ sizeAt family (drop at s) → Passes family s at (at + 4)
 over-four family spe s at there other none =
     passes family s at 4 there
-    (and-behind family s at 4 none (behind-no-mark family spe (drop at s) (λ e. other (sym (getD-drop at s 3 0) ∙ e))))
-
--- a start with no frame: none here;
-pub over-none : (s : List ℕ) (at : ℕ) → at < length s → 0 ≡ sizeAt 2 (drop at s) → Passes 2 s at (at + 1)
-over-none s at there none = passes 2 s at 1 (omega arith) (and-behind 2 s at 1 none (λ j q p. absurd (omega arith)))
+    (and-behind family s at 4 none
+    (λ j some few. bad-not-good (behind-no-mark family spe (drop at s) (omega (arith, length-drop at s)) (λ e. other (sym (getD-drop at s 3 0) ∙ e)) j some few .0)))
 
 -- another byte than `$`: none here;
 pub over-byte : (s : List ℕ) (at : ℕ) → at < length s → (getD s at 0 ≡ code "$" → ⊥) → Passes 2 s at (at + 1)
-over-byte s at there other = over-none s at there (size-none 2 (drop at s) (bad-not-good (not-dollar s at there other .0)))
+over-byte s at there other = over-none 2 s at there (size-none 2 (drop at s) (bad-not-good (not-dollar s at there other .0)))
 
 -- and a `$` with no frame: none here and in the run behind it.
 pub over-run : (s : List ℕ) (at n : ℕ) → at < length s → n ≤ length (payloadRun (drop 1 (drop at s))) → 0 ≡ sizeAt 2 (drop at s) → Passes 2 s at (at + (n + 1))

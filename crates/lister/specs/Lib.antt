@@ -1,3 +1,3 @@
--- `Sizes` has how long a good frame at the head is, and `Fills` what the walks that fill the list give.
+-- `Sizes` has how long a good frame at the head is, and which starts a walk passes over, and `Fills` what the walks that fill the list give.
 pub mod Fills
 pub mod Sizes

@@ -91,7 +91,8 @@ pub(crate) fn sentence_size(s: &[u8], n: usize) -> usize
     0
 }
 
-// The first start from a place on that has no mark in its count's place: no count is a mark.
+// The first start from a place on that has no mark in its count's place, or that fewer than six bytes are left
+// for: no count is a mark.
 fn past_marks(s: &[u8], from: usize) -> usize
     requires { ⌜ from ≤ length (now s) ⌝ }
     ensures { λ r. ⌜ Passes 3 (now (s .entry)) from r ⌝ }

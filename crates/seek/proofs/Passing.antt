@@ -34,7 +34,7 @@ mark-not family k not-55 not-aa = by (eqb family 3)
     by true = not-55
     by false = not-aa
 
-pub mark-needs-none : (family count : ℕ) → count ≡ markOf family → needs family count ≡ 0
+mark-needs-none : (family count : ℕ) → count ≡ markOf family → needs family count ≡ 0
 mark-needs-none family count mark =
     needs-none family count
     (λ p. mark-not family 0x01 (λ q. omega (arith, q)) (λ q. omega (arith, q)) (sym mark ∙ p))
@@ -53,7 +53,7 @@ module _ (family : ℕ) (spe : family ≡ 2 → ⊥) (bs : List ℕ) where
             (h .0, omega (arith, h .1))
       ])
 
-  pub not-marked : (k : ℕ) → k < 3 → k < length bs → (getD bs k 0 ≡ markOf family → ⊥) → BadBy family bs (k + 1)
+  not-marked : (k : ℕ) → k < 3 → k < length bs → (getD bs k 0 ≡ markOf family → ⊥) → BadBy family bs (k + 1)
   not-marked k low there other =
       with-marks k (k + 1) (omega arith) (omega arith) (omega arith)
       (λ marks. let h = no-mark family spe bs k low there marks other in (h .0, omega (arith, h .1)))

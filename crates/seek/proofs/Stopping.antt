@@ -1,5 +1,5 @@
--- A walk along the starts: how it begins, goes on over a bad start, and is followed by another; and what stands where it
--- stops.
+-- A walk along the starts: how it begins, goes on over bad starts, one or several, and is followed by another; and what
+-- stands where it stops.
 -- Assumes nothing.
 use Prim.Native.Nat.{ℕ, zero, suc, max, _+_, _-_, _≤_, _<_}
 use mathlib.Core.Path.{_≡_, refl, sym, ap, subst, _∙_}
@@ -58,7 +58,7 @@ module _ (family : ℕ) (bs : List ℕ) where
       ap (λ (n : ℕ). reach family n bs) (add-suc at k) in
       (omega (arith, before, more), omega (arith, before, last, more))
 
-  pub skips : (from far at on k : ℕ) → Walks family bs from far at on → at + k ≤ length bs
+  skips : (from far at on k : ℕ) → Walks family bs from far at on → at + k ≤ length bs
       → ((j : ℕ) → j < k → BadBy family (drop (at + j) bs) (k + 6 - j)) → Walks family bs from far (at + k) on
   skips from far at on k w there each = record {
     ahead = omega (arith, w .ahead);
@@ -106,13 +106,10 @@ module _ (family : ℕ) (bs : List ℕ) where
   }
 
   -- a decided start is settled by bytes that are there
-  pub settled-there : (at d : ℕ) → (head family (drop at bs) ≡ wait → ⊥) → settled family (drop at bs) ≡ d → (0 < d) × (d ≤ length bs - at)
+  settled-there : (at d : ℕ) → (head family (drop at bs) ≡ wait → ⊥) → settled family (drop at bs) ≡ d → (0 < d) × (d ≤ length bs - at)
   settled-there at d decided is =
       let k = settling family (drop at bs) decided in
       (omega (arith, k .some, is), omega (arith, k .there, is, length-drop at bs))
-
-  pub bad-there : (at d : ℕ) → SettledBy family (drop at bs) d → d ≤ length bs - at
-  bad-there at d h = settled-there at d (λ e. let z : _≡_ {A = ℕ} 0 1 = cc (h .0) in omega arith) (h .1) .1
 
   pub whole-there : (at n : ℕ) → WholeAt at n → (0 < n) × (n ≤ length bs - at)
   whole-there at n h = settled-there at n (λ e. headOf-decided n (readOne family (take n (drop at bs))) (sym (h .0) ∙ e)) (h .1)

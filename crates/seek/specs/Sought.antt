@@ -20,12 +20,13 @@ pub record AtStop (family : ℕ) (bs : List ℕ) (r : Stop) : Type 0 where
   pub whole : (r .size ≡ 0 → ⊥)
       → (head family (drop (r .at) bs) ≡ headOf (r .size) (readOne family (take (r .size) (drop (r .at) bs)))) × (settled family (drop (r .at) bs) ≡ r .size)
 
--- Two counts of how far bytes reach are the same for a frame that starts here or further on: it has at least six bytes, and
--- what does not reach behind them makes no difference.
+-- Two counts of how far bytes reach are the same for a frame that starts here or further on: it has at least six bytes, is
+-- settled by all of its own, and the further of the two counts; so what does not reach behind six makes no difference.
 abbrev pub SameFor : ℕ → ℕ → ℕ → Type 0
 SameFor at on far = max on (at + 6) ≡ max far (at + 6)
 
--- A walk from a place on: the starts that it has passed are bad, and how far the bytes reach that settled them is counted on.
+-- A walk from a place on: the starts that it has passed are bad, and a count of how far the bytes reach that was right where it
+-- began, for frames from there on, is right where it has come to.
 pub record Walks (family : ℕ) (bs : List ℕ) (from far at on : ℕ) : Type 0 where
   pub ahead : from ≤ at
   pub within : from ≤ length bs → at ≤ length bs

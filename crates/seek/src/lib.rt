@@ -1,5 +1,6 @@
-// Walks the starts of some bytes: to the first that is not bad, or to the first good frame. Each start is
-// examined once, and a frame is read only where nothing rules it out.
+// Walks the starts of some bytes: to the first that is not bad, or to the first good frame. Starts that a byte
+// further on rules out are passed together; any other is examined once, and a frame is read only where
+// nothing rules it out.
 use frames::read_frame;
 use heads::Seen;
 use heads::examine;
@@ -53,8 +54,8 @@ fn ruled_out(family: u8, s: &[u8]) -> bool
 }
 
 // A start that is not passed over: its place, the size of the frame that may stand there, and how far the
-// bytes reach that settled the starts before it, as far as that is behind such a frame. The size is 0 where
-// the start is undecided, or the bytes end.
+// bytes reach that settled the starts before it, exact where that is behind the six bytes that any frame
+// there has. The size is 0 where the start is undecided, or the bytes end.
 struct Stop {
     at: usize,
     size: usize,
@@ -72,9 +73,10 @@ fn mark_for_count(mark: u8, start: &[u8]) -> bool
     start[3] == mark
 }
 
-// How many starts are passed over with a bad one that has so many bytes and no mark for its count: no frame
-// starts at that byte or at the two before it.
-fn starts_with(left: usize) -> usize
+// How many starts are passed over with a bad one, itself among them, that has so many bytes and no mark for its
+// count: no frame starts at the count's byte or at the two before it. With fewer than four bytes there is no
+// such byte.
+fn passed_with(left: usize) -> usize
     ensures { λ r. ⌜ (4 ≤ left → r ≡ 4) × (left < 4 → r ≡ 1) ⌝ }
 {
     if 4 <= left {
@@ -93,7 +95,7 @@ fn packet_stop(family: u8, s: &[u8], from: usize, far: usize) -> Stop
     let mut reach = far;
     while at < s.len() {
         if mark_for_count(mark, &s[at..]) {
-            at += 1; // the first mark may be noise before three others
+            at += 1; // three marks may begin at the next byte
             continue;
         }
         match examine(family, &s[at..]) {
@@ -102,19 +104,19 @@ fn packet_stop(family: u8, s: &[u8], from: usize, far: usize) -> Stop
                     return Stop { at, size, reach };
                 }
                 reach = further(reach, at + size);
-                at += 4;
+                at += 4; // its count is no mark
                 continue;
             }
             Seen::Undecided => return Stop { at, size: 0, reach },
             Seen::Bad(_) => {}
         }
-        at += starts_with(s.len() - at);
+        at += passed_with(s.len() - at);
     }
     Stop { at, size: 0, reach }
 }
 
-// The same of sentences. Up to the byte that settled a bad one there is no other `$`; and no start reaches
-// behind a later frame.
+// The same of sentences. Before the byte that settled a bad one there is no other `$`; and what settles a start
+// never reaches behind a frame that starts later.
 fn sentence_stop(s: &[u8], from: usize, far: usize) -> Stop
     ensures { λ r. ⌜ Stops 2 (now (s .entry)) from far r ⌝ }
 {

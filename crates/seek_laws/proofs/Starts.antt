@@ -18,7 +18,7 @@ use Rattle.stream_laws.proofs.Looks.{found, drains, rule-bad, rule-wait, rule-d
 abbrev pub BadBefore : (List ℕ → Head) → List ℕ → ℕ → Type 0
 BadBefore h bs k = (j : ℕ) → j < k → h (drop j bs) ≡ bad
 
--- none of the first k starts of a list is good
+-- a start that is not good, as a bad one is; and none of the first k starts of a list is good
 abbrev pub NotGood : Head → Type 0
 NotGood x = (n : ℕ) (f : Frame) → x ≡ good n f → ⊥
 

@@ -1,5 +1,6 @@
-// A call on all that is offered, which alters the held places where they stand. The bytes offered are searched
-// where they stand too, as a whole; only what is held is joined first, in a buffer, with the next of them.
+// A call on more bytes than the held places have room for, which alters them where they stand. The bytes offered
+// are searched where they stand too, as a whole; only what is held is joined first, in a buffer, with the
+// next of them. Also what such calls and those on few bytes share.
 use leaves::further;
 use leaves::text;
 use pens::put_bytes;
@@ -72,7 +73,7 @@ pub(crate) fn keep(s: &[u8], a: usize, n: usize) -> [u8; 133]
     held
 }
 
-// Keeps a part of what stands in the places, which have zeros behind it. All of it stays where it is.
+// Keeps a part of what stands in the places, with zeros behind it. A part that is all of it stays as it is.
 pub(crate) fn keep_part(places: &mut [u8; 133], all: usize, a: usize, n: usize)
     requires { ⌜ (a + n ≤ all) × (all ≤ 133) × (length (now places) ≡ 133) ⌝ }
     requires { ⌜ now places ≡ filled (take all (now places)) ⌝ }
@@ -163,7 +164,7 @@ fn take_piece(family: u8, held: &mut [u8; 133], count: usize, piece: &[u8]) -> N
     turn_of(family, bytes, count, 0, 0, held)
 }
 
-// A call on all that is offered. Where a whole piece with the held bytes leaves no frame, what is kept
+// Such a call. Where a whole piece with the held bytes leaves no frame, what is kept
 // is no longer than the piece, so it is the piece's last bytes, and the call goes on from there.
 pub(crate) fn advance(family: u8, held: &mut [u8; 133], count: usize, offered: &[u8]) -> Next
     requires { ⌜ (count < longest family) × (count ≤ 133) ⌝ }

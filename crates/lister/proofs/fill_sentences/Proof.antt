@@ -97,7 +97,7 @@ loop-again-2 c =
     let a = c .before .before .before .before .before .before .before .before .before .args in
     let loop = c .before .before .before .before .before .before .loop in
     passed _ _ _ _ _ _ (loop .inv) _
-    (over-none (a .capture .now) (loop .at) (omega arith)
+    (over-none 2 (a .capture .now) (loop .at) (omega arith)
     (c .before .may-be-sentence .ensures (not-true _ (c .if2 .taken)) ∙ ap (sizeAt 2) (whole-rest (a .capture .now) (loop .at))))
 
 add-payload-bytes : tie.Need-add-payload-bytes Inv-loop μ-loop

@@ -11,7 +11,7 @@ use borrow.Author.Needs.{needs}
 use lib.ListN.{length, take, drop}
 use Rattle.rules.specs.Answers.{readOne}
 use Rattle.rules.specs.declared.Frame.{Frame}
-use Rattle.stream_rules.specs.Heads.{Head, wait, bad, good, headOf, head}
+use Rattle.stream_rules.specs.Heads.{Head, wait, good, headOf, head}
 use Rattle.stream_rules.specs.Rule.{Look, byLook}
 use Rattle.seek_laws.proofs.Families.{facts}
 use Rattle.seek_laws.proofs.Starts.{NotGood, bad-not-good}

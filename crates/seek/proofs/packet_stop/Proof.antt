@@ -1,6 +1,6 @@
 -- `seek::packet_stop` meets its contract. The loop's invariant is the walk so far. The measure is what is left of the bytes.
 -- Assumes nothing.
-use Prim.Native.Nat.{ℕ, _+_, _-_, _≤_, _<_}
+use Prim.Native.Nat.{ℕ, _-_, _≤_, _<_}
 use mathlib.Core.Path.{_≡_, sym, ap, subst, _∙_}
 use mathlib.Core.Bool.{false}
 use mathlib.Core.List.{List}
@@ -10,10 +10,8 @@ use borrow.Author.Needs.{needs}
 use borrow.Author.Tests.{not-false}
 use lib.ListN.{length, take, drop, getD, length-drop}
 use Rattle.rules.specs.Answers.{isGood, readOne}
-use Rattle.stream_rules.specs.Heads.{markOf}
 use Rattle.head_laws.proofs.Lists.{whole-rest}
 use Rattle.heads.specs.Seen.{seen}
-use Rattle.heads.specs.declared.Seen.the-variants.{Whole, Bad}
 use Rattle.heads.proofs.Starts.{seen-whole, seen-bad, seen-undecided, bad-soon, whole-size}
 use Rattle.seek.specs.Sought.{Walks}
 use Rattle.seek.proofs.Passing.{BadBy, mark-is-no-count, behind-no-mark}
@@ -70,11 +68,11 @@ broken c =
     (h .0, omega (arith, h .1, bad-soon (a .family) (c .before .before .before .before .before .before .before .before .before .before .before .pre) start _ is))
 
 -- with which one start is passed, or four
-step : (c : tie.After-starts-with Inv-loop μ-loop) → (0 < c .starts-with .result) × (c .starts-with .result ≤ length (c .before .before .before .before .before .before .before .before .before .before .before .before .args .s .now) - c .before .before .before .before .before .before .before .before .before .loop .at)
+step : (c : tie.After-passed-with Inv-loop μ-loop) → (0 < c .passed-with .result) × (c .passed-with .result ≤ length (c .before .before .before .before .before .before .before .before .before .before .before .before .args .s .now) - c .before .before .before .before .before .before .before .before .before .loop .at)
 step c =
     elim (decLt (length (c .before .before .before .before .before .before .before .before .before .before .before .before .args .s .now) - c .before .before .before .before .before .before .before .before .before .loop .at) 4) [
-      | yes few ↦ let one = c .starts-with .ensures .1 few in (omega (arith, one), omega (arith, one))
-      | no some ↦ let four = c .starts-with .ensures .0 (omega arith) in (omega (arith, four), omega (arith, four))
+      | yes few ↦ let one = c .passed-with .ensures .1 few in (omega (arith, one), omega (arith, one))
+      | no some ↦ let four = c .passed-with .ensures .0 (omega arith) in (omega (arith, four), omega (arith, four))
     ]
 
 mark-of-requires : tie.Need-mark-of-requires Inv-loop μ-loop
@@ -154,7 +152,7 @@ add-at-2 : tie.Need-add-at-2 Inv-loop μ-loop
 add-at-2 c = omega (arith, six (c .before .before .before .before), enough (c .before .before .before .before))
 
 loop-less-2 : tie.Need-loop-less-2 Inv-loop μ-loop
-loop-less-2 c = omega arith
+loop-less-2 c = omega (arith, six (c .before .before .before .before), enough (c .before .before .before .before))
 
 loop-again-2 : tie.Need-loop-again-2 Inv-loop μ-loop
 loop-again-2 c =
@@ -181,11 +179,11 @@ returns-2 c =
 enum-told-2 : tie.Need-enum-told-2 Inv-loop μ-loop
 enum-told-2 c = search needs
 
-sub-starts-with : tie.Need-sub-starts-with Inv-loop μ-loop
-sub-starts-with c = omega arith
+sub-passed-with : tie.Need-sub-passed-with Inv-loop μ-loop
+sub-passed-with c = omega arith
 
-starts-with-requires : tie.Need-starts-with-requires Inv-loop μ-loop
-starts-with-requires c κs = search needs
+passed-with-requires : tie.Need-passed-with-requires Inv-loop μ-loop
+passed-with-requires c κs = search needs
 
 add-at-3 : tie.Need-add-at-3 Inv-loop μ-loop
 add-at-3 c = omega (arith, step c)
@@ -197,14 +195,14 @@ loop-again-3 : tie.Need-loop-again-3 Inv-loop μ-loop
 loop-again-3 c =
     let a = c .before .before .before .before .before .before .before .before .before .before .before .before .args in
     let loop = c .before .before .before .before .before .before .before .before .before .loop in
-    let k = c .starts-with .result in
+    let k = c .passed-with .result in
     let bad-here = broken (c .before) in
     passes-over (a .family) (a .s .now) (a .from) (a .far) (loop .at) (loop .reach) k (loop .inv) (omega (arith, step c)) (bad-here .0, omega (arith, bad-here .1))
     (λ j p q.
     elim (decLt (length (a .s .now) - loop .at) 4) [
-      | yes few ↦ absurd (omega (arith, c .starts-with .ensures .1 few))
+      | yes few ↦ absurd (omega (arith, c .passed-with .ensures .1 few))
       | no some ↦
-          let four = c .starts-with .ensures .0 (omega arith) in
+          let four = c .passed-with .ensures .0 (omega arith) in
           let h = behind (c .before .before .before .before .before) (omega arith) j p (omega (arith, four)) in
           (h .0, omega (arith, h .1))
     ])
@@ -246,8 +244,8 @@ packet-stop-spec =
     enum-told
     returns-2
     enum-told-2
-    sub-starts-with
-    starts-with-requires
+    sub-passed-with
+    passed-with-requires
     add-at-3
     loop-less-3
     loop-again-3

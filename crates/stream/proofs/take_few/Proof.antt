@@ -13,9 +13,7 @@ use Rattle.pens.specs.Pens.{laid}
 use Rattle.stream_rules.specs.Heads.{head}
 use Rattle.stream_rules.specs.Rule.{call}
 use Rattle.stream_laws.proofs.States.{longest-fits}
-use Rattle.seek.specs.Sought.{soughtIn}
 use Rattle.seek.specs.declared.Hit.{Hit}
-use Rattle.seek.specs.declared.Sought.the-variants.{Ready, Waiting}
 use Rattle.stream.specs.declared.Moved.{Moved}
 use Rattle.stream.specs.declared.pieces.Cut.{Cut}
 use Rattle.stream.specs.declared.pieces.Step.the-variants.{Ready as StepReady, Waiting as StepWaiting}

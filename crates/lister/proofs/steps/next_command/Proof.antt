@@ -3,7 +3,6 @@
 -- Assumes nothing.
 use Prim.Native.Nat.{_+_}
 use native.Mathlib.Omega.{arith}
-use borrow.Author.Needs.{needs}
 use Rattle.lister.proofs.Skips.{over-mark, over-four, further}
 use Rattle.lister.proofs.steps.next_command.Statement.{statement}
 use Rattle.lister.proofs.steps.next_command.Tie as tie

@@ -9,7 +9,7 @@ use native.Mathlib.Omega.{arith}
 use borrow.Author.Needs.{needs}
 use lib.ListN.{length, take, drop, getD}
 use Rattle.rules.specs.Answers.{isGood, readOne}
-use Rattle.stream_rules.specs.Heads.{payloadRun, lengthAt, Head, bad, head}
+use Rattle.stream_rules.specs.Heads.{payloadRun, lengthAt, head}
 use Rattle.head_laws.proofs.Heads.{good-head}
 use Rattle.head_laws.proofs.SentenceStarts.{no-dollar, no-star}
 use Rattle.seek_laws.proofs.Starts.{NotGood, bad-not-good}
