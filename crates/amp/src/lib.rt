@@ -127,8 +127,7 @@ pub extern "C" fn amp_close(reader: &mut Reader) -> u32
 pub extern "C" fn amp_read(family: u32, bytes: &[u8], numbers: &mut [i64]) -> u32
     ensures { λ r. ⌜ ReadsRow family (now (bytes .entry)) (now (numbers .entry)) r (now (numbers .exit)) ⌝ }
 {
-    let reading = frames::read_frame(family_byte(family), bytes);
-    rows::lay_reading(reading, bytes.len(), numbers)
+    frame_rows::read_row(family_byte(family), bytes, 0, 0, 0, numbers)
 }
 
 // The starts of the frames in a capture, and how many there are.

@@ -1,18 +1,14 @@
 -- What a call and the row of its answer say of the reader that is left: where the row was laid, the one that the call gives back, and
--- else the one that it was made on. A row that has no room is longer than the lent numbers, and no row is longer than 26.
+-- else the one that it was made on.
 -- Assumes nothing.
 use Prim.Native.Nat.{ℕ, _≤_}
 use mathlib.Core.Path.{_≡_, refl, sym, ap, subst, _∙_}
 use mathlib.Core.Bool.{cond}
 use mathlib.Core.List.{List}
-use native.Mathlib.Omega.{arith}
-use borrow.Author.Tests.{eq-eqb, ne-eqb, le-leb}
+use borrow.Author.Tests.{eq-eqb, ne-eqb}
 use lib.Dec.{eqb, lit≤}
 use lib.IntN.{ℤ}
 use lib.ListN.{length}
-use Rattle.rules.specs.Sentences.{numbers02, numbers03}
-use Rattle.rules.specs.declared.Frame.{Frame}
-use Rattle.rules.specs.declared.Frame.the-variants.{Ack, Status, Command, Apa02, Apa03, Apa05, Other}
 use Rattle.stream_rules.specs.Streams.{saidToFeed, Feeds}
 use Rattle.stream_rules.specs.declared.Reader.{Reader}
 use Rattle.stream_rules.specs.declared.Fed.{Fed}
@@ -20,23 +16,9 @@ use Rattle.stream_rules.specs.declared.Answer.{Answer}
 use Rattle.stream_rules.specs.declared.Answer.the-variants.{Ready, More, Done, Refused}
 use Rattle.stream_laws.specs.Sessions.{isNoRefusal}
 use Rattle.stream_laws.proofs.States.{refused-as-before}
-use Rattle.rows.specs.Rows.{row, rowFed, rowNumber, Lays}
+use Rattle.rows.specs.Rows.{rowFed, Lays}
+use Rattle.rows.proofs.Lengths.{row-fits, room}
 use Rattle.fed_rows.specs.FedRows.{FeedsRow}
-
--- the longest row is that of a status report
-row-fits : (taken start skipped size : ℕ) (f : Frame) → length (row taken start skipped size f) ≤ 26
-unfolding numbers02 numbers03
-row-fits taken start skipped size (Ack c) = lit≤ tt
-row-fits taken start skipped size (Status s) = lit≤ tt
-row-fits taken start skipped size (Command c) = lit≤ tt
-row-fits taken start skipped size (Apa02 r) = lit≤ tt
-row-fits taken start skipped size (Apa03 r) = lit≤ tt
-row-fits taken start skipped size (Apa05 r) = lit≤ tt
-row-fits taken start skipped size (Other n) = lit≤ tt
-
--- with so many numbers lent, only a refusal has another number than 0
-room : (r numbers : List ℤ) → length r ≤ 26 → 26 ≤ length numbers → rowNumber r numbers ≡ 0
-room r numbers short long = rw (le-leb (length r) (length numbers) (omega (arith, short, long)))
 
 module _ (reader : Reader) (offered : List ℕ) (numbers : List ℤ) (f : Fed) (result : ℕ) (left : List ℤ) (feeds : Feeds reader offered f) (lays : Lays (saidToFeed (f .answer)) (rowFed (f .answer)) numbers result left) where
   row-of : (after : Reader) → after ≡ cond (eqb result 0) (f .reader) reader → FeedsRow reader offered numbers result after left

@@ -56,10 +56,14 @@ rowFed (More n) = rowWithout 5 n
 rowFed (Done n) = rowWithout 6 n
 rowFed (Refused n) = []
 
+-- of what the reader of one frame answers, with the bytes taken, the start, the bytes skipped and the length of such a frame
+abbrev pub rowAt : ℕ → ℕ → ℕ → ℕ → Reading → List ℤ
+rowAt taken start skipped size (Good f) = row taken start skipped size f
+rowAt taken start skipped size (NotGood n) = []
+
 -- of a frame that is read alone, its length is that of the bytes
 abbrev pub rowRead : ℕ → Reading → List ℤ
-rowRead size (Good f) = row 0 0 0 size f
-rowRead size (NotGood n) = []
+rowRead size reading = rowAt 0 0 0 size reading
 
 -- the number for no, and 0 for yes
 abbrev pub refusalOf : Says → ℕ

@@ -15,7 +15,7 @@ ghost use Prim.Native.Nat.{_+_, _≤_};
 ghost use Rattle.rules.specs.Answers.{said, statusNumbers, numbers05, values};
 ghost use Rattle.rules.specs.Sentences.{numbers02, numbers03};
 ghost use Rattle.stream_rules.specs.Streams.{saidToFeed};
-ghost use Rattle.rows.specs.Rows.{frameKind, frameCode, whole, head, row, rowWithout, rowFed, rowRead, laidAt, LaysRow, Lays};
+ghost use Rattle.rows.specs.Rows.{frameKind, frameCode, whole, head, row, rowFed, rowAt, laidAt, LaysRow, Lays};
 
 // The numbers from a place on.
 fn put_numbers(numbers: &mut [i64], at: usize, what: &[u32])
@@ -237,14 +237,46 @@ fn lay_frame(
     0
 }
 
-// The row without a frame, with the same refusal.
-fn lay_taken(kind: u32, taken: usize, numbers: &mut [i64]) -> u32
-    ensures { λ r. ⌜ LaysRow (rowWithout kind taken) (now (numbers .entry)) r (now (numbers .exit)) ⌝ }
+// A row that has no values: its six numbers. Refusal 4 where they have no room.
+pub fn lay_head(
+    kind: u32,
+    code: u32,
+    taken: usize,
+    start: u32,
+    skipped: u32,
+    size: usize,
+    numbers: &mut [i64],
+) -> u32
+    ensures { λ r. ⌜ LaysRow (head kind code taken start skipped size) (now (numbers .entry)) r (now (numbers .exit)) ⌝ }
 {
     if numbers.len() < 6 {
         return 4;
     }
-    put_head(numbers, kind, 0, taken, 0, 0, 0);
+    put_head(numbers, kind, code, taken, start, skipped, size);
+    0
+}
+
+// A row with these values, with the same refusal.
+pub fn lay_values(
+    kind: u32,
+    code: u32,
+    taken: usize,
+    start: u32,
+    skipped: u32,
+    size: usize,
+    values: &[u32],
+    numbers: &mut [i64],
+) -> u32
+    ensures { λ r. ⌜ LaysRow (head kind code taken start skipped size ++ map pos (now (values .entry))) (now (numbers .entry)) r (now (numbers .exit)) ⌝ }
+{
+    if numbers.len() < 6 {
+        return 4;
+    }
+    if numbers.len() - 6 < values.len() {
+        return 4;
+    }
+    put_head(numbers, kind, code, taken, start, skipped, size);
+    put_numbers(numbers, 6, values);
     0
 }
 
@@ -264,18 +296,25 @@ pub fn lay_answer(answer: Answer, numbers: &mut [i64]) -> u32
                 numbers,
             )
         }
-        Answer::More(taken) => lay_taken(5, taken, numbers),
-        Answer::Done(taken) => lay_taken(6, taken, numbers),
+        Answer::More(taken) => lay_head(5, 0, taken, 0, 0, 0, numbers),
+        Answer::Done(taken) => lay_head(6, 0, taken, 0, 0, 0, numbers),
         Answer::Refused(n) => n as u32,
     }
 }
 
-// What a reader of one frame answered, which has that size.
-pub fn lay_reading(reading: Reading, size: usize, numbers: &mut [i64]) -> u32
-    ensures { λ r. ⌜ Lays (said reading) (rowRead size reading) (now (numbers .entry)) r (now (numbers .exit)) ⌝ }
+// What a reader of one frame answered, as the row of a frame of that size that was handed out so.
+pub fn lay_reading(
+    reading: Reading,
+    taken: usize,
+    start: u32,
+    skipped: u32,
+    size: usize,
+    numbers: &mut [i64],
+) -> u32
+    ensures { λ r. ⌜ Lays (said reading) (rowAt taken start skipped size reading) (now (numbers .entry)) r (now (numbers .exit)) ⌝ }
 {
     match reading {
-        Reading::Good(frame) => lay_frame(frame, 0, 0, 0, size, numbers),
+        Reading::Good(frame) => lay_frame(frame, taken, start, skipped, size, numbers),
         Reading::Refused(n) => n as u32,
     }
 }

@@ -1,2 +1,3 @@
--- What a walk along starts finds.
+-- What a walk along starts finds, and the row of it.
 pub mod Sought
+pub mod RowSought

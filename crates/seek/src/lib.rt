@@ -1,9 +1,13 @@
 // Walks the starts of some bytes: to the first that is not bad, or to the first good frame. Starts that a byte
 // further on rules out are passed together; any other is examined once, and a frame is read only where
-// nothing rules it out.
+// nothing rules it out. `laying` has the same search with the row of what it finds.
+mod laying;
+
 use frames::read_frame;
 use heads::Seen;
 use heads::examine;
+pub use laying::Place;
+pub use laying::seek_row;
 use leaves::further;
 use rules::Frame;
 use rules::Reading;
@@ -56,10 +60,10 @@ fn ruled_out(family: u8, s: &[u8]) -> bool
 // A start that is not passed over: its place, the size of the frame that may stand there, and how far the
 // bytes reach that settled the starts before it, exact where that is behind the six bytes that any frame
 // there has. The size is 0 where the start is undecided, or the bytes end.
-struct Stop {
-    at: usize,
-    size: usize,
-    reach: usize,
+pub(crate) struct Stop {
+    pub at: usize,
+    pub size: usize,
+    pub reach: usize,
 }
 
 // Whether a mark stands where the count of a start would.
@@ -152,7 +156,7 @@ fn sentence_stop(s: &[u8], from: usize, far: usize) -> Stop
 
 // The first start from a place on that is undecided, or of which the reader of one frame has to decide. (Only
 // numbers go in and come back, so that nothing is copied; the caller reads the frame.)
-fn next_stop(family: u8, s: &[u8], from: usize, far: usize) -> Stop
+pub(crate) fn next_stop(family: u8, s: &[u8], from: usize, far: usize) -> Stop
     ensures { λ r. ⌜ Stops family (now (s .entry)) from far r ⌝ }
 {
     if family == 2 {

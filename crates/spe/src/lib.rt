@@ -1,5 +1,5 @@
 // Reads one frame of an SPE amplifier: a reply of family 1, or a command of family 3. A frame is tested
-// as a whole, and only what a good one says is read.
+// as a whole, and only what a good one says is read; of a report also as numbers.
 use leaves::text;
 use leaves::wide;
 use rules::Frame;
@@ -15,8 +15,14 @@ ghost use Prim.Native.Nat.{_+_, _≤_};
 ghost use lib.ListN.{length};
 ghost use Rattle.rules.specs.Bytes.{part};
 ghost use Rattle.rules.specs.Status.{readable, statusOf};
-ghost use Rattle.rules.specs.Answers.{Reads};
-ghost use Rattle.spe.specs.Report.{weighed, reportIn};
+ghost use Rattle.rules.specs.Answers.{Reads, statusNumbers};
+ghost use Rattle.spe.specs.Report.{weighed, numbersIn, reportIn};
+
+// Whether some bytes are a status report, and the numbers of its fields.
+pub struct ReportNumbers {
+    pub good: bool,
+    pub numbers: [u32; 20],
+}
 
 // The number in two bytes of a good report: a digit counts as itself, a space before it as nothing.
 fn two_at(d: &[u8], a: usize) -> u8
@@ -68,6 +74,53 @@ fn read_values(d: &[u8]) -> Status
         combiner: three_at(d, 59, 61),
         warning: d[63],
         alarm: d[65],
+    }
+}
+
+// The same as twenty numbers, in the order of the fields. (They stand here a second time: numbers that are made of
+// a record wait for its bytes to be written, and a row of them is laid for each report.)
+fn numbers_at(d: &[u8]) -> [u32; 20]
+    requires { ⌜ (length (now d) ≡ 67) × (readable (now d) ≡ true) ⌝ }
+    ensures { λ r. ⌜ r ≡ statusNumbers (statusOf (now (d .entry))) ⌝ }
+{
+    [
+        two_at(d, 1) as u32,
+        d[5] as u32,
+        d[7] as u32,
+        d[9] as u32,
+        (d[11] % 16) as u32,
+        two_at(d, 13) as u32,
+        (d[16] % 16) as u32,
+        d[17] as u32,
+        (d[19] % 16) as u32,
+        d[22] as u32,
+        four_at(d, 24, 26),
+        four_at(d, 29, 32),
+        four_at(d, 35, 38),
+        three_at(d, 41, 44),
+        three_at(d, 46, 49),
+        three_at(d, 51, 53),
+        three_at(d, 55, 57),
+        three_at(d, 59, 61),
+        d[63] as u32,
+        d[65] as u32,
+    ]
+}
+
+// The numbers of a status report; where the bytes are none, zeros.
+pub fn read_numbers(s: &[u8]) -> ReportNumbers
+    ensures { λ r. ⌜ r ≡ numbersIn (now (s .entry)) ⌝ }
+{
+    if !is_status(s) {
+        return ReportNumbers {
+            good: false,
+            numbers: [0u32; 20],
+        };
+    }
+    let numbers = numbers_at(text(s, 4, 67));
+    ReportNumbers {
+        good: true,
+        numbers,
     }
 }
 

@@ -19,7 +19,8 @@ use Rattle.seek.specs.Sought.{firstFrom}
 use Rattle.seek.specs.declared.First.the-variants.{At, Nothing}
 use Rattle.stream_rules.specs.Streams.{closedCall}
 use Rattle.stream_rules.specs.declared.Reader.{Reader}
-use Rattle.stream.specs.Turns.{filled, turned, StepFits}
+use Rattle.places.specs.Held.{filled}
+use Rattle.stream.specs.Turns.{turned, StepFits}
 use Rattle.stream.proofs.Counts.{fedBy}
 use Rattle.stream.specs.declared.pieces.Step.the-variants.{Ready}
 

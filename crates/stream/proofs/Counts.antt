@@ -1,8 +1,8 @@
 -- The answers of a reader, from the turn that gives them: the counts that wrap, and the rules of a call.
 -- Assumes nothing.
-use Prim.Native.Nat.{ℕ, _+_, _%_, _^_}
+use Prim.Native.Nat.{ℕ, _+_}
 use mathlib.Core.Path.{_≡_, sym, ap, _∙_}
-use native.Mathlib.Nat.{zero-add, add-mod-mod}
+use native.Mathlib.Nat.{zero-add}
 use Rattle.stream_rules.specs.Rule.{Call, gives, wants}
 use Rattle.stream_rules.specs.Streams.{wrap, openCall}
 use Rattle.stream_rules.specs.declared.Reader.{Reader}
@@ -14,10 +14,6 @@ use Rattle.stream.specs.Turns.{Turn, turned, handedOut, movedStep, moved
 use Rattle.stream.specs.declared.pieces.Step.the-variants.{Ready, Waiting}
 use Rattle.stream.specs.declared.pieces.Got.{Got}
 use Rattle.stream.specs.declared.pieces.Next.{Next}
-
--- A count goes on by a number that has wrapped as by the number itself.
-pub counted-on : (x k low sum : ℕ) → low ≡ k % 2 ^ 32 → sum ≡ (x + low) % 2 ^ 32 → sum ≡ wrap (x + k)
-counted-on x k low sum e d = d ∙ ap (λ (n : ℕ). (x + n) % 2 ^ 32) e ∙ add-mod-mod x k (2 ^ 32)
 
 -- What a turn with a frame leaves, from its sum and what is said of the frame, and one that wants more, from its two sums.
 module _ (at skipped : ℕ) (next : Next) where

@@ -20,7 +20,8 @@ use Rattle.seek_laws.proofs.Jump.{Jump, jump, upTo, drop-take}
 use Rattle.seek.specs.Sought.{soughtIn}
 use Rattle.seek.specs.declared.Hit.{Hit}
 use Rattle.seek.specs.declared.Sought.the-variants.{Ready, Waiting}
-use Rattle.stream.specs.Turns.{filled, stepFrom, keptOf, callOn, turnedFrom, Cuts}
+use Rattle.places.specs.Held.{filled}
+use Rattle.stream.specs.Turns.{stepFrom, keptOf, callOn, turnedFrom, Cuts}
 use Rattle.stream.specs.declared.pieces.Cut.{Cut}
 use Rattle.stream.specs.declared.pieces.Step.the-variants.{Ready as StepReady, Waiting as StepWaiting}
 

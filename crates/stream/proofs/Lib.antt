@@ -1,7 +1,6 @@
--- `Buffers` has what stands in the held places and in the buffer of a piece, `Cutting` what a search of that buffer says of
--- the call, `Onward` how a call goes on behind a piece, `Counts` what a turn leaves, `Closing` what a closed reader hands out,
--- and `Single` that the promise of a call on a reader's parts leaves one result.
-pub mod Buffers
+-- `Cutting` has what a search of the held bytes and a piece says of the call, `Onward` how a call goes on behind a piece, `Counts`
+-- what a turn leaves, `Closing` what a closed reader hands out, and `Single` that the promise of a call on a reader's parts leaves
+-- one result.
 pub mod Cutting
 pub mod Onward
 pub mod Counts

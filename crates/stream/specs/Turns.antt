@@ -1,9 +1,10 @@
 -- What a call has done after some pieces of what it was offered, in the words of the rules.
 use Prim.Native.Nat.{ℕ, _+_, _-_, _^_, _≤_, _<_}
 use mathlib.Core.Path.{_≡_}
-use mathlib.Core.List.{List, _++_}
-use lib.ListN.{length, take, drop, replicate}
+use mathlib.Core.List.{List}
+use lib.ListN.{length, take, drop}
 use Rattle.rules.specs.Bytes.{part}
+use Rattle.places.specs.Held.{filled}
 use Rattle.stream_rules.specs.Heads.{longest, head, atClose}
 use Rattle.stream_rules.specs.Rule.{look, Call, gives, wants, call}
 use Rattle.stream_rules.specs.Streams.{wrap, closedCall}
@@ -16,10 +17,6 @@ use Rattle.stream.specs.declared.pieces.Cut.{Cut}
 use Rattle.stream.specs.declared.pieces.Next.{Next}
 use Rattle.stream.specs.declared.Moved.{Moved}
 use Rattle.stream.specs.Places.{readerAt, fedAt}
-
--- bytes in the held places, with zeros behind them
-abbrev pub filled : List ℕ → List ℕ
-filled bytes = bytes ++ replicate (133 - length bytes) 0
 
 -- what a call says, behind t bytes taken and s skipped before it, and what it keeps
 abbrev pub stepFrom : ℕ → ℕ → Call → Step

@@ -5,21 +5,20 @@ mod pieces;
 use leaves::further;
 use leaves::is_family;
 use leaves::text;
-use pens::put_bytes;
 use pieces::Got;
 use pieces::Next;
 use pieces::Step;
 use pieces::advance;
-use pieces::clear_from;
 use pieces::keep;
-use pieces::keep_part;
-use pieces::longest_frame;
-use pieces::size;
+pub use pieces::longest_frame;
+use places::append;
+use places::keep_part;
+use places::size;
 use seek::First;
 use seek::Sought;
 use seek::first_good;
 use seek::seek;
-use std::num::wrapping_add_u32;
+use stamps::advanced;
 use stream_rules::Answer;
 use stream_rules::Fed;
 use stream_rules::Outcome;
@@ -28,7 +27,7 @@ use stream_rules::Ready;
 use stream_rules::Turned;
 ghost use mathlib.Core.Path.{_≡_};
 ghost use mathlib.Core.List.{[]};
-ghost use Prim.Native.Nat.{_+_, _%_, _^_, _≤_, _<_};
+ghost use Prim.Native.Nat.{_+_, _≤_, _<_};
 ghost use lib.ListN.{length};
 ghost use Rattle.stream_rules.specs.Heads.{longest};
 ghost use Rattle.stream_rules.specs.Streams.{holding, Feeds, Shuts, Makes};
@@ -44,13 +43,6 @@ pub struct Moved {
     pub answer: Answer,
 }
 
-// The number modulo 2^32.
-fn low(n: usize) -> u32
-    ensures { λ r. ⌜ r ≡ n % 2 ^ 32 ⌝ }
-{
-    (n % 0x1_0000_0000) as u32
-}
-
 // What is said of a frame that is handed out, by a reader at a place that has skipped some bytes.
 fn handed_out(at: u32, skipped: u32, got: Got) -> Ready
     ensures { λ r. ⌜ r ≡ handedOut at skipped got ⌝ }
@@ -58,8 +50,8 @@ fn handed_out(at: u32, skipped: u32, got: Got) -> Ready
     let frame = got.frame;
     Ready {
         taken: got.taken,
-        start: wrapping_add_u32(at, low(got.skipped)),
-        skipped: wrapping_add_u32(skipped, low(got.skipped)),
+        start: advanced(at, got.skipped),
+        skipped: advanced(skipped, got.skipped),
         length: got.length,
         frame,
     }
@@ -77,15 +69,15 @@ fn answered(at: u32, skipped: u32, next: Next) -> Moved
             let ready = handed_out(at, skipped, got);
             Moved {
                 count,
-                at: wrapping_add_u32(at, low(got.skipped + got.length)),
+                at: advanced(at, got.skipped + got.length),
                 skipped: 0, // counted again from here
                 answer: Answer::Ready(ready),
             }
         }
         Step::Waiting(taken, passed) => Moved {
             count,
-            at: wrapping_add_u32(at, low(passed)),
-            skipped: wrapping_add_u32(skipped, low(passed)),
+            at: advanced(at, passed),
+            skipped: advanced(skipped, passed),
             answer: Answer::More(taken),
         },
     }
@@ -104,8 +96,7 @@ fn take_few(
     requires { ⌜ (count < longest family) × (count + length (now few) ≤ 133) × (length (now held) ≡ 133) ⌝ }
     ensures { λ m. ⌜ Takes family (now (held .entry)) count at skipped (now (few .entry)) (now (held .exit)) m ⌝ }
 {
-    clear_from(held, count);
-    put_bytes(held, count, few);
+    append(held, count, few);
     let all = count + few.len();
     match seek(family, text(held, 0, all)) {
         Sought::Waiting(from) => {
@@ -139,8 +130,8 @@ fn done(at: u32, skipped: u32, dropped: usize) -> Moved
 {
     Moved {
         count: 0,
-        at: wrapping_add_u32(at, low(dropped)),
-        skipped: wrapping_add_u32(skipped, low(dropped)),
+        at: advanced(at, dropped),
+        skipped: advanced(skipped, dropped),
         answer: Answer::Done(0),
     }
 }

@@ -13,7 +13,8 @@ ghost use lib.ListN.{length, take};
 ghost use Rattle.rules.specs.Bytes.{part};
 ghost use Rattle.stream_rules.specs.Heads.{longest, head};
 ghost use Rattle.stream_rules.specs.Rule.{call};
-ghost use Rattle.stream.specs.Turns.{filled, callOn, turnWith, turnedFrom, turned, Cuts};
+ghost use Rattle.places.specs.Held.{filled};
+ghost use Rattle.stream.specs.Turns.{callOn, turnWith, turnedFrom, turned, Cuts};
 
 // A frame that is ready: the bytes taken, the bytes skipped, its length, and what it says.
 pub struct Got {
@@ -43,7 +44,7 @@ pub struct Next {
 }
 
 // The longest frame of a family.
-pub(crate) fn longest_frame(family: u8) -> usize
+pub fn longest_frame(family: u8) -> usize
     ensures { λ r. ⌜ r ≡ longest family ⌝ }
 {
     if family == 1 {
@@ -55,14 +56,6 @@ pub(crate) fn longest_frame(family: u8) -> usize
     6
 }
 
-// How many bytes there are: a function of its own, because a proof knows no length of an array behind a
-// reference, and has it of the slice that this is lent.
-pub(crate) fn size(s: &[u8]) -> usize
-    ensures { λ r. ⌜ r ≡ length (now (s .entry)) ⌝ }
-{
-    s.len()
-}
-
 // Some bytes of a slice in the held places, with zeros behind them.
 pub(crate) fn keep(s: &[u8], a: usize, n: usize) -> [u8; 133]
     requires { ⌜ (a + n ≤ length (now s)) × (n ≤ 133) ⌝ }
@@ -71,31 +64,6 @@ pub(crate) fn keep(s: &[u8], a: usize, n: usize) -> [u8; 133]
     let mut held = [0u8; 133];
     put_bytes(&mut held, 0, text(s, a, n));
     held
-}
-
-// Keeps a part of what stands in the places, with zeros behind it. A part that is all of it stays as it is.
-pub(crate) fn keep_part(places: &mut [u8; 133], all: usize, a: usize, n: usize)
-    requires { ⌜ (a + n ≤ all) × (all ≤ 133) × (length (now places) ≡ 133) ⌝ }
-    requires { ⌜ now places ≡ filled (take all (now places)) ⌝ }
-    ensures { λ _. ⌜ now (places .exit) ≡ filled (part a n (take all (now (places .entry)))) ⌝ }
-{
-    if n == all {
-        return;
-    }
-    let kept = keep(text(places, 0, all), a, n);
-    *places = kept;
-}
-
-// Zeros in the held places from one of them on.
-pub(crate) fn clear_from(places: &mut [u8; 133], from: usize)
-    requires { ⌜ (from ≤ 133) × (length (now places) ≡ 133) ⌝ }
-    ensures { λ _. ⌜ now (places .exit) ≡ filled (take from (now (places .entry))) ⌝ }
-{
-    let mut i = from;
-    while i < 133 {
-        places[i] = 0;
-        i += 1;
-    }
 }
 
 // What a call does with bytes whose first ones it held.

@@ -1,69 +1,126 @@
--- `fed_rows::feed_row` meets its contract: where the row was laid, the reader is the one that the call left. Else it is as it was: where
--- there was room for every row the call was refused, and left it so; and where there was not, its places were kept and are put back.
+-- `fed_rows::feed_row` meets its contract: each way of its own is the call on that reader, and where none is taken, nothing is changed
+-- before the general way.
 -- Assumes nothing.
-use mathlib.Core.Path.{_≡_, ap}
-use mathlib.Core.List.{List}
+use Prim.Native.Nat.{_≤_}
+use mathlib.Core.Path.{_≡_, sym, ap, _∙_}
 use mathlib.Core.Logic.{⊎-elim}
-use Prim.Native.Nat.{ℕ}
 use native.Mathlib.Omega.{arith}
-use borrow.Author.Needs.{needs}
-use borrow.Author.Tests.{ltb-false}
+use borrow.Author.Tests.{not-false}
 use lib.ListN.{length}
-use Rattle.stream_rules.specs.declared.Reader.{Reader}
-use Rattle.stream.specs.Places.{readerAt}
-use Rattle.fed_rows.proofs.Fed.{laid, not-laid, as-it-was}
+use borrow.Author.Needs.{needs}
 use Rattle.fed_rows.proofs.feed_row.Statement.{statement}
 use Rattle.fed_rows.proofs.feed_row.Tie as tie
 
--- the reader of the parts
-abbrev reader : tie.Start → Reader
-reader c = readerAt (c .args .family) (c .args .closed) (c .args .count) (c .args .held .now) (c .args .at) (c .args .skipped)
+-- where the first test has been passed: the reader is open, there is room for every row, and the places are 133
+module _ (e : tie.Else1) where
+  abbrev start : tie.Start
+  start = e .before .before .before .before .before .before
 
-feed-places-requires : tie.Need-feed-places-requires
-feed-places-requires c κs = search needs
+  told : (start .args .closed ≡ 0) × (e .before .before .size .result ≡ 133) × (26 ≤ length (start .args .numbers .now))
+  told = e .before .is-plain .ensures (not-false _ (e .if1 .left))
 
-lay-answer-requires : tie.Need-lay-answer-requires
-lay-answer-requires c κs = search needs
+  places : length (start .args .held .now) ≡ 133
+  places = sym (e .before .before .size .ensures) ∙ told .1
+
+-- where no frame has been handed out from the front, nothing is changed
+unchanged : (j : tie.Joined2) → (j .if2 .held ≡ start (j .before) .args .held .now) × (j .if2 .numbers ≡ start (j .before) .args .numbers .now)
+unchanged j =
+    ⊎-elim
+    (λ w. let none = w .3 .ensures .none (w .5 .left) in (w .6 ∙ none .0, w .7 ∙ none .1))
+    (λ w. (w .1, w .2))
+    (j .if2 .came)
+
+size-requires : tie.Need-size-requires
+size-requires c κs = search needs
+
+is-plain-requires : tie.Need-is-plain-requires
+is-plain-requires c κs = search needs
+
+feed-any-requires : tie.Need-feed-any-requires
+feed-any-requires c κs = search needs
+
+left-so-requires : tie.Need-left-so-requires
+left-so-requires c κs = search needs
 
 same-length : tie.Need-same-length
 same-length c = search needs
 
 returns : tie.Need-returns
-returns c = λ long.
-    let a = c .before .before .before .before .before .before .before .before .args in
-    laid (reader (c .before .before .before .before .before .before .before .before)) (a .offered .now) (a .numbers .now) _ _ _ (c .before .before .before .before .feed-places .ensures long) (c .before .before .lay-answer .ensures) (c .if2 .taken)
+returns c = rw (c .left-so .ensures) (c .before .before .feed-any .ensures)
+
+front-frame-requires : tie.Need-front-frame-requires
+front-frame-requires c κs = let e = c .before .before .before in (told e .2, places e)
+
+advanced-requires : tie.Need-advanced-requires
+advanced-requires c κs = search needs
+
+left-so-requires-2 : tie.Need-left-so-requires-2
+left-so-requires-2 c κs = search needs
 
 same-length-2 : tie.Need-same-length-2
 same-length-2 c = search needs
 
 returns-2 : tie.Need-returns-2
 returns-2 c = λ long.
-    let a = c .before .before .before .before .before .before .before .before .before .args in
-    let kept : c .before .before .before .before .before .before .before .if1 .places ≡ a .held .now = ⊎-elim (λ w. w .2) (λ w. let z : _≡_ {A = ℕ} 0 1 = cc (w .0 .left, c .if3 .taken) in absurd (omega arith)) (c .before .before .before .before .before .before .before .if1 .came) in
-    not-laid (reader (c .before .before .before .before .before .before .before .before .before)) (a .offered .now) (a .numbers .now) _ _ _ (c .before .before .before .before .before .feed-places .ensures long) (c .before .before .before .lay-answer .ensures) (c .before .if2 .left) _
-    (ap (λ (l : List ℕ). readerAt (a .family) (a .closed) (a .count) l (a .at) (a .skipped)) kept)
+    let then = c .before .before .before .before .before .before .before in
+    rw (c .left-so2 .ensures, told (then .before) .0, then .if2 .taken, c .before .advanced .ensures)
+    (c .before .before .before .before .front-frame .ensures .handed (c .before .before .if3 .taken))
+
+is-few-requires : tie.Need-is-few-requires
+is-few-requires c κs = search needs
+
+feed-few-requires : tie.Need-feed-few-requires
+feed-few-requires c κs =
+    let then = c .before .before in
+    let j = then .before .before in
+    let few = then .before .is-few .ensures (then .if4 .taken) in
+    let same = unchanged j in
+    (few .0, few .1, few .2, omega (arith, told (j .before) .2, ap length (same .1)), ap length (same .0) ∙ places (j .before))
 
 same-length-3 : tie.Need-same-length-3
-same-length-3 c = search needs
+same-length-3 c = c .numbers3 .given ∙ ap length (unchanged (c .before .before .before .before .before .before) .1)
 
 returns-3 : tie.Need-returns-3
 returns-3 c = λ long.
-    let a = c .before .before .before .before .before .before .before .before .before .args in
-    let fed = c .before .before .before .before .before .feed-places .ensures long in
-    let some = c .before .if2 .left in
-    let was = as-it-was (reader (c .before .before .before .before .before .before .before .before .before)) (a .offered .now) (a .numbers .now) _ _ _ fed (c .before .before .before .lay-answer .ensures) some (ltb-false (length (a .numbers .now)) 26 (c .if3 .left)) in
-    not-laid (reader (c .before .before .before .before .before .before .before .before .before)) (a .offered .now) (a .numbers .now) _ _ _ fed (c .before .before .before .lay-answer .ensures) some _
-    (ap (λ (r : Reader). readerAt (a .family) (a .closed) (a .count) (r .held) (a .at) (a .skipped)) was)
+    let j = c .before .before .before .before .before .before in
+    let same = unchanged j in
+    rw (told (j .before) .0, ← same .0, ← same .1) (c .before .feed-few .ensures (ap length (same .0) ∙ places (j .before)))
+
+feed-any-requires-2 : tie.Need-feed-any-requires-2
+feed-any-requires-2 c κs = search needs
+
+left-so-requires-3 : tie.Need-left-so-requires-3
+left-so-requires-3 c κs = search needs
+
+same-length-4 : tie.Need-same-length-4
+same-length-4 c = c .before .numbers4 .given ∙ ap length (unchanged (c .before .before .before .before .before .before .before) .1)
+
+returns-4 : tie.Need-returns-4
+returns-4 c = λ long.
+    let j = c .before .before .before .before .before .before .before in
+    let same = unchanged j in
+    rw (c .left-so3 .ensures, ← same .0, ← same .1) (c .before .before .feed-any2 .ensures (ap length (same .0) ∙ places (j .before)))
 
 pub feed-row-spec : {M : Type 1} → statement M
 feed-row-spec =
     tie.close
     (tie.spec
-    feed-places-requires
-    lay-answer-requires
+    size-requires
+    is-plain-requires
+    feed-any-requires
+    left-so-requires
     same-length
     returns
+    front-frame-requires
+    advanced-requires
+    left-so-requires-2
     same-length-2
     returns-2
+    is-few-requires
+    feed-few-requires
     same-length-3
-    returns-3)
+    returns-3
+    feed-any-requires-2
+    left-so-requires-3
+    same-length-4
+    returns-4)

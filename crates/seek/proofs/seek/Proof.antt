@@ -1,81 +1,18 @@
 -- `seek::seek` meets its contract. The loop's invariant: the walk from the first start on has come to the stop. The measure is
 -- what is left of the bytes.
 -- Assumes nothing.
-use Prim.Native.Nat.{ℕ, suc, max, _+_, _-_, _≤_, _<_}
-use mathlib.Core.Path.{_≡_, refl, sym, ap, subst, _∙_}
-use mathlib.Core.List.{List}
-use native.Mathlib.Decide.{decLt}
+use Prim.Native.Nat.{_-_, _≤_, _<_}
+use mathlib.Core.Path.{_≡_, sym, ap, _∙_}
 use native.Mathlib.Omega.{arith}
 use borrow.Author.Needs.{needs}
 use lib.ListN.{length, take, drop}
 use Rattle.rules.specs.Answers.{readOne}
-use Rattle.rules.specs.declared.Frame.{Frame}
-use Rattle.stream_rules.specs.Heads.{bad, good, headOf, head}
-use Rattle.stream_rules.specs.Rule.{Look, byLook}
-use Rattle.stream_rules.specs.Settled.{reach}
-use Rattle.head_laws.proofs.Heads.{GoodHead, good-head}
-use Rattle.heads.proofs.Starts.{at-least-six}
-use Rattle.seek_laws.proofs.Families.{facts}
-use Rattle.seek_laws.proofs.Starts.{BadBefore, look-at-good, look-at-wait, look-at-end}
-use Rattle.seek.specs.Sought.{SameFor, soughtIn, Stops}
-use Rattle.seek.proofs.Stopping.{part-there, goes-on, followed, whole-there, refused-whole}
-use Rattle.seek.specs.declared.Sought.{Sought}
-use Rattle.seek.specs.declared.Sought.the-variants.{Ready, Waiting}
-use Rattle.seek.specs.declared.Stop.{Stop}
+use Rattle.stream_rules.specs.Heads.{headOf}
+use Rattle.seek.specs.Sought.{Stops}
+use Rattle.seek.proofs.Stopping.{part-there, whole-there}
+use Rattle.seek.proofs.Searching.{ready, waiting, onward}
 use Rattle.seek.proofs.seek.Statement.{statement}
 use Rattle.seek.proofs.seek.Tie as tie
-
--- what a look at the bytes says, as an answer
-abbrev answer : ℕ → List ℕ → Look → Sought
-answer family s l =
-    byLook l (λ k n f behind. Ready (record { start = k; length = n; reach = reach family (suc k) s; frame = f })) (λ k rest. Waiting k)
-
-module _ (family : ℕ) (s : List ℕ) (p : Stop) (stops : Stops family s 0 0 p) where
-  -- the starts before the stop are bad
-  before : BadBefore (head family) s (p .at)
-  before j low = stops .walks .passes j (omega arith) low
-
-  within : p .at ≤ length s
-  within = stops .walks .within (omega arith)
-
-  -- how far the bytes reach that settled them and a frame there
-  counted : (f : Frame) → GoodHead family (drop (p .at) s) (p .size) f → max (p .reach) (p .at + p .size) ≡ reach family (suc (p .at)) s
-  unfolding reach
-  counted f g =
-      let same : SameFor (p .at) (p .reach) (reach family (p .at) s) = stops .walks .reaches refl in
-      let six = at-least-six family (drop (p .at) s) (omega (arith, g .some, g .declared)) in
-      omega (arith, same, six, g .declared, g .settles)
-
-  ready : (f : Frame) (r : ℕ) → head family (drop (p .at) s) ≡ good (p .size) f → r ≡ max (p .reach) (p .at + p .size)
-      → Ready (record { start = p .at; length = p .size; reach = r; frame = f }) ≡ soughtIn family s
-  unfolding soughtIn
-  ready f r here is =
-      ap (λ (n : ℕ). Ready (record { start = p .at; length = p .size; reach = n; frame = f })) (is ∙ counted f (good-head family (drop (p .at) s) (p .size) f here))
-      ∙ ap (answer family s) (sym (look-at-good (facts family) s (p .at) (p .size) f before here))
-
-  -- an undecided start, or the end
-  waiting : p .size ≡ 0 → Waiting (p .at) ≡ soughtIn family s
-  unfolding soughtIn
-  waiting none =
-      elim (decLt (p .at) (length s)) [
-        | yes there ↦ ap (answer family s) (sym (look-at-wait (head family) s (p .at) within before (stops .found .waits none there)))
-        | no end ↦
-            let at-end : p .at ≡ length s = omega (arith, within) in
-            ap Waiting at-end ∙ ap (answer family s) (sym (look-at-end (head family) s (subst (λ (n : ℕ). BadBefore (head family) s n) at-end before)))
-      ]
-
-  -- bytes that are refused: the walk goes on behind the stop
-  onward : (p .size ≡ 0 → ⊥) → headOf (p .size) (readOne family (take (p .size) (drop (p .at) s))) ≡ bad → (far : ℕ) → far ≡ max (p .reach) (p .at + p .size)
-      → (q : Stop) → Stops family s (p .at + 1) far q → Stops family s 0 0 q
-  onward some refused far to q next =
-      let whole = stops .found .whole some in
-      let there = whole-there family s (p .at) (p .size) whole in
-      record {
-        walks = followed family s 0 0 (p .at + 1) far (q .at) (q .reach)
-            (goes-on family s 0 0 (p .at) (p .reach) far (p .size) (stops .walks) (omega (arith, there .0, there .1)) (refused-whole family s (p .at) (p .size) whole refused) to)
-            (next .walks);
-        found = next .found;
-      }
 
 abbrev Inv-loop : tie.InvT-loop
 Inv-loop family s stop₀ stop = Stops family s 0 0 stop

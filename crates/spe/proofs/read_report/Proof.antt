@@ -10,9 +10,8 @@ use Rattle.rules.specs.Status.{dataOf, readable, statusOf, isStatus}
 use Rattle.rules.specs.declared.Status as StatusType
 use Rattle.rules.specs.declared.Frame.the-variants.{Status}
 use Rattle.rules.specs.declared.Reading.the-variants.{Good, Refused}
-use Rattle.laws.proofs.Bytes.{tests}
-use Rattle.status_tests.proofs.Frames.{framed-data}
 use Rattle.spe.specs.Report.{reportIn}
+use Rattle.spe.proofs.Values.{status-told}
 use borrow.Author.Needs.{needs}
 use Rattle.spe.proofs.read_report.Statement.{statement}
 use Rattle.spe.proofs.read_report.Tie as tie
@@ -25,11 +24,6 @@ module _ (s : List ℕ) where
   a-report : isStatus s ≡ true → Good (Status (statusOf (dataOf s))) ≡ reportIn s
   unfolding reportIn
   a-report e = rw e
-
-  -- the data of a good report can be read
-  status-told : isStatus s ≡ true → (length (dataOf s) ≡ 67) × (readable (dataOf s) ≡ true)
-  unfolding isStatus
-  status-told e = (framed-data s (search tests), search tests)
 
 -- where the data has been taken, the report is good
 is-good : (t : tie.After-text) → isStatus (t .before .before .before .before .args .s .now) ≡ true

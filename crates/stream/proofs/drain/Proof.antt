@@ -11,7 +11,7 @@ use Rattle.stream_rules.specs.Rule.{waiting, look}
 use Rattle.stream_rules.specs.Streams.{closedCall}
 use Rattle.stream_laws.proofs.States.{longest-fits}
 use Rattle.stream.specs.Places.{readerAt, fedAt}
-use Rattle.stream.proofs.Buffers.{zeros}
+use Rattle.places.proofs.Buffers.{zeros}
 use Rattle.stream.proofs.Closing.{Drained, drained, drained-answer, emptied}
 use Rattle.stream.proofs.drain.Statement.{statement}
 use Rattle.stream.proofs.drain.Tie as tie

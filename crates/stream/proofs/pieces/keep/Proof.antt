@@ -8,7 +8,7 @@ use borrow.Author.Needs.{needs}
 use lib.ListN.{drop, length-take}
 use Rattle.rules.specs.Bytes.{part}
 use Rattle.pens.specs.Pens.{laid}
-use Rattle.stream.proofs.Buffers.{zeros, fills}
+use Rattle.places.proofs.Buffers.{zeros, fills}
 use Rattle.stream.proofs.pieces.keep.Statement.{statement}
 use Rattle.stream.proofs.pieces.keep.Tie as tie
 

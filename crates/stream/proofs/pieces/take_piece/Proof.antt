@@ -10,7 +10,7 @@ use lib.ListN.{length, take, length-append}
 use lib.Seq.{length-take-le}
 use Rattle.pens.specs.Pens.{laid}
 use Rattle.stream.specs.Turns.{callOn, turned}
-use Rattle.stream.proofs.Buffers.{zeros, length-zeros, joins}
+use Rattle.places.proofs.Buffers.{zeros, length-zeros, joins}
 use Rattle.stream.proofs.Onward.{call-same}
 use Rattle.stream.proofs.pieces.take_piece.Statement.{statement}
 use Rattle.stream.proofs.pieces.take_piece.Tie as tie

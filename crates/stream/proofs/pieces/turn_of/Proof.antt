@@ -9,7 +9,7 @@ use lib.ListN.{drop, length-take}
 use Rattle.rules.specs.Bytes.{part}
 use Rattle.pens.specs.Pens.{laid}
 use Rattle.stream_laws.proofs.States.{longest-fits}
-use Rattle.stream.proofs.Buffers.{zeros, fills}
+use Rattle.places.proofs.Buffers.{zeros, fills}
 use Rattle.stream.proofs.Cutting.{turns}
 use Rattle.stream.proofs.pieces.turn_of.Statement.{statement}
 use Rattle.stream.proofs.pieces.turn_of.Tie as tie

@@ -1,0 +1,2 @@
+-- A frame that is read and laid as a row.
+pub mod ReadRows

@@ -1,0 +1,2 @@
+-- What stands in the held places of a stream reader.
+pub mod Held

@@ -1,0 +1,133 @@
+// The held places of a stream reader, which are lent and altered where they stand: bytes laid behind those held,
+// a part of them kept, and zeros behind what they hold.
+use leaves::text;
+use pens::put_bytes;
+ghost use mathlib.Core.Path.{_≡_};
+ghost use mathlib.Core.Bool.{true};
+ghost use mathlib.Core.List.{[]};
+ghost use Prim.Native.Nat.{_+_, _≤_};
+ghost use lib.ListN.{length, take};
+ghost use Rattle.pens.specs.Pens.{laid};
+ghost use Rattle.places.specs.Held.{filled, appended, keptPart};
+
+// How many places there are: a function of its own, because a proof knows no length of an array behind a
+// reference, and has it of the slice that this is lent.
+pub fn size(places: &[u8]) -> usize
+    ensures { λ r. ⌜ r ≡ length (now (places .entry)) ⌝ }
+{
+    places.len()
+}
+
+// Zeros from one of the places on.
+fn clear_from(places: &mut [u8; 133], from: usize)
+    ensures { λ _. ⌜ (length (now (places .entry)) ≡ 133 → now (places .exit) ≡ filled (take from (now (places .entry)))) ⌝ }
+{
+    let mut i = from;
+    while i < 133 {
+        places[i] = 0;
+        i += 1;
+    }
+}
+
+// Sixteen bytes as a block.
+fn block_of(few: &[u8]) -> [u8; 16]
+    requires { ⌜ length (now few) ≡ 16 ⌝ }
+    ensures { λ r. ⌜ r ≡ now (few .entry) ⌝ }
+{
+    let mut block = [0u8; 16];
+    let mut i = 0;
+    while i < 16 {
+        block[i] = few[i];
+        i += 1;
+    }
+    block
+}
+
+// Sixteen bytes laid at a place. All are read before one is written, so that the compiler moves them at once.
+fn put_block(places: &mut [u8; 133], at: usize, few: &[u8])
+    requires { ⌜ (length (now few) ≡ 16) × (at + 16 ≤ 133) ⌝ }
+    ensures { λ _. ⌜ (length (now (places .entry)) ≡ 133 → now (places .exit) ≡ laid at (now (few .entry)) (now (places .entry))) ⌝ }
+{
+    let block = block_of(few);
+    let mut i = 0;
+    while i < 16 {
+        places[at + i] = block[i];
+        i += 1;
+    }
+}
+
+// Bytes laid at a place, sixteen of them as a block.
+fn lay_at(places: &mut [u8; 133], at: usize, few: &[u8])
+    requires { ⌜ at + length (now few) ≤ 133 ⌝ }
+    ensures { λ _. ⌜ (length (now (places .entry)) ≡ 133 → now (places .exit) ≡ laid at (now (few .entry)) (now (places .entry))) ⌝ }
+{
+    if few.len() == 16 {
+        put_block(places, at, few);
+        return;
+    }
+    put_bytes(places, at, few);
+}
+
+// Bytes laid behind the first ones, with zeros behind them, where there is room for them.
+pub fn append(places: &mut [u8; 133], count: usize, few: &[u8])
+    ensures { λ _. ⌜ (length (now (places .entry)) ≡ 133 → now (places .exit) ≡ appended count (now (few .entry)) (now (places .entry))) ⌝ }
+{
+    if 133 < count {
+        return;
+    }
+    if 133 - count < few.len() {
+        return;
+    }
+    lay_at(places, count, few);
+    clear_from(places, count + few.len());
+}
+
+// Keeps so many places from one of them on, with zeros behind them. Where they are as many as `all`, which stand at the
+// front, everything stays as it is; where they are none, there is nothing to copy.
+pub fn keep_part(places: &mut [u8; 133], all: usize, a: usize, n: usize)
+    ensures { λ _. ⌜ (length (now (places .entry)) ≡ 133 → now (places .exit) ≡ keptPart all a n (now (places .entry))) ⌝ }
+{
+    if n == all {
+        return;
+    }
+    if n == 0 {
+        *places = [0u8; 133];
+        return;
+    }
+    let mut kept = [0u8; 133];
+    put_bytes(&mut kept, 0, text(places, a, n));
+    *places = kept;
+}
+
+// Whether zeros stand in all places. They are seen as nine blocks of sixteen side by side, the last of which
+// overlaps the one before it, so that the compiler tests sixteen bytes at once.
+fn is_clear(places: &[u8; 133]) -> bool
+    ensures { λ r. ⌜ (r ≡ true → length (now (places .entry)) ≡ 133 → now (places .entry) ≡ filled []) ⌝ }
+{
+    let mut clear = true;
+    let mut i = 0;
+    while i < 16 {
+        clear = clear
+            & ((places[i]
+                | places[i + 16]
+                | places[i + 32]
+                | places[i + 48]
+                | places[i + 64]
+                | places[i + 80]
+                | places[i + 96]
+                | places[i + 112]
+                | places[i + 117])
+                == 0);
+        i += 1;
+    }
+    clear
+}
+
+// Zeros in all places. Where they are there already nothing is written.
+pub fn clear(places: &mut [u8; 133])
+    ensures { λ _. ⌜ (length (now (places .entry)) ≡ 133 → now (places .exit) ≡ filled []) ⌝ }
+{
+    if !is_clear(places) {
+        *places = [0u8; 133];
+    }
+}

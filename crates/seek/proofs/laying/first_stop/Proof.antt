@@ -1,0 +1,18 @@
+-- `seek::laying::first_stop` meets its contract: a whole report is a stop, and else the walk has found it.
+-- Assumes nothing.
+use Rattle.seek.proofs.Searching.{begun-whole}
+use borrow.Author.Needs.{needs}
+use Rattle.seek.proofs.laying.first_stop.Statement.{statement}
+use Rattle.seek.proofs.laying.first_stop.Tie as tie
+
+returns : tie.Need-returns
+returns c = let b = c .before .before .pre (c .if1 .taken) in begun-whole _ _ (b .0) (b .1)
+
+next-stop-requires : tie.Need-next-stop-requires
+next-stop-requires c κs = search needs
+
+returns-2 : tie.Need-returns-2
+returns-2 c = search needs
+
+pub first-stop-spec : {M : Type 1} → statement M
+first-stop-spec = tie.close (tie.spec returns next-stop-requires returns-2)
