@@ -1,7 +1,7 @@
 -- A call on few bytes, which stand with the held ones at the front of the places: what a search finds there, and the row that it has
 -- laid, are those of the call; and what is kept of them is what the call keeps.
 -- Assumes nothing.
-use Prim.Native.Nat.{ℕ, max, _+_, _-_, _≤_, _<_}
+use Prim.Native.Nat.{ℕ, max, _+_, _-_, _^_, _≤_, _<_}
 use mathlib.Core.Path.{_≡_, refl, sym, ap, subst, _∙_}
 use mathlib.Core.Bool.{true, _&&_}
 use mathlib.Core.List.{List, _++_}
@@ -11,7 +11,7 @@ use borrow.Author.Tests.{le-leb}
 use lib.Dec.{leb}
 use lib.IntN.{ℤ}
 use lib.ListN.{length, take, length-append}
-use lib.Seq.{length-take-le}
+use lib.Seq.{length-take-le, take-all}
 use Rattle.rules.specs.Bytes.{part}
 use Rattle.rules.specs.Answers.{isFamily}
 use Rattle.stream_rules.specs.Heads.{longest, head}
@@ -28,7 +28,7 @@ use Rattle.seek.specs.declared.Sought.{Sought}
 use Rattle.seek.specs.declared.Sought.the-variants.{Ready, Waiting}
 use Rattle.seek.specs.declared.laying.Place.{Place}
 use Rattle.places.specs.Held.{filled}
-use Rattle.rows.specs.Rows.{front}
+use Rattle.rows.specs.Rows.{rowWithout, front}
 use Rattle.stream.specs.Places.{readerAt, fedAt}
 use Rattle.stream.specs.Turns.{turned, callOn, movedStep, Cuts}
 use Rattle.stream.specs.declared.pieces.Cut.{Cut}
@@ -86,6 +86,20 @@ module _ (family count at skipped : ℕ) (places few bytes : List ℕ) (numbers 
             stands;
         hands = λ some kept is. absurd (some refl);
       }
+
+  -- where the first start stays undecided, all bytes are kept
+  pub goes-on : soughtIn family bytes ≡ Waiting 0 → at < 2 ^ 32 → skipped < 2 ^ 32 → (after : List ℤ) → after ≡ front (rowWithout 5 (length few)) numbers
+      → (kept : List ℕ) → kept ≡ filled bytes → FeedsRow reader few numbers 0 (readerAt family 0 (count + length few) kept at skipped) after
+  goes-on e low less after stands kept is =
+      let long : length bytes ≡ count + length few = ap length are ∙ length-append (take count places) few ∙ ap (λ (n : ℕ). n + length few) size in
+      let taken : length few ≡ length bytes - count = omega (arith, long) in
+      let start : wrap (at + (0 + 0)) ≡ at = omega arith in
+      let passed : wrap (skipped + (0 + 0)) ≡ skipped = omega arith in
+      let many : length bytes - (0 + 0) ≡ count + length few = omega (arith, long) in
+      let fed-so =
+      waiting-at after 0 e (stands ∙ ap (λ (n : ℕ). front (rowWithout 5 n) numbers) taken) .waits refl kept
+      (is ∙ ap filled (sym (take-all (length bytes - (0 + 0)) bytes (omega arith)))) in
+      rw (start, passed, many) at fed-so
 
   ready-at : (after : List ℤ) (hit : Hit) → soughtIn family bytes ≡ Ready hit → after ≡ front (rowOf (length bytes) count at skipped (Ready hit)) numbers
       → FewAt after (placeOf (length bytes) count (Ready hit))

@@ -83,10 +83,14 @@ frame-there family at skipped held offered n f a-family there read some numbers 
           (front-row family at skipped held offered n f a-family there read numbers after room (stands ∙ (λ i. front (row n (start i) (passed i) n f) numbers)));
     }
 
--- the families that have such frames
+-- the families
 pub family-1 : isFamily 1 ≡ true
 unfolding oneOf
 family-1 = refl
+
+pub family-2 : isFamily 2 ≡ true
+unfolding oneOf
+family-2 = refl
 
 pub family-3 : isFamily 3 ≡ true
 unfolding oneOf

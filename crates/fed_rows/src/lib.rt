@@ -1,8 +1,12 @@
 // A call on a stream reader that comes in its parts, its held places lent, with the row of what it answers: what is
 // offered to the reader behind a reference goes through here, so that no reader is copied. Calls on few bytes, and
 // those that find a whole packet or report at the front, have ways of their own, in which the row is laid from a
-// frame's bytes.
+// frame's bytes; `going` has those in which nothing is decided.
+mod going;
+
 use frame_rows::read_row;
+use going::feed_on;
+use going::goes_on;
 use leaves::is_family;
 use leaves::text;
 use places::append;
@@ -15,8 +19,8 @@ use seek::seek_row;
 use spe_tests::is_command;
 use stamps::advanced;
 use starts::bytes_needed;
+use starts::longest_frame;
 use stream::feed_places;
-use stream::longest_frame;
 ghost use mathlib.Core.Path.{_≡_};
 ghost use mathlib.Core.Bool.{true};
 ghost use Prim.Native.Nat.{_+_, _≤_, _<_};
@@ -202,7 +206,7 @@ fn is_few(family: u8, count: u8, others: usize) -> bool
 
 // What a call leaves, put together. (What the general way gives goes through here: handed on as it is, it would lie
 // in memory on every way.)
-fn left_so(number: u32, count: u8, at: u32, skipped: u32) -> Counts
+pub(crate) fn left_so(number: u32, count: u8, at: u32, skipped: u32) -> Counts
     ensures { λ c. ⌜ c ≡ record { number = number; count = count; at = at; skipped = skipped } ⌝ }
 {
     Counts {
@@ -235,6 +239,10 @@ pub fn feed_row(
         let n = front_frame(family, at, skipped, held, offered, numbers);
         if n != 0 {
             return left_so(0, 0, advanced(at, n), 0);
+        }
+    } else {
+        if goes_on(family, count, held, offered) {
+            return feed_on(family, count, at, skipped, held, offered, numbers);
         }
     }
     if is_few(family, count, offered.len()) {

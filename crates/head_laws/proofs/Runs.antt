@@ -1,15 +1,15 @@
 -- The run of payload bytes behind the first byte of a list: how long it is, byte by byte, and in a front of the list.
 -- By induction on the list; payload bytes in front of a list only lengthen its run. Assumes nothing.
 use Prim.Native.Nat.{ℕ, zero, suc, _+_, _-_, _<_, _≤_, min}
-use mathlib.Core.Path.{_≡_, sym, ap, _∙_}
-use mathlib.Core.Bool.{Bool, true, false, cond}
+use mathlib.Core.Path.{_≡_, refl, sym, ap, _∙_}
+use mathlib.Core.Bool.{Bool, true, false, _&&_, cond}
 use mathlib.Core.List.{List, [], _∷_, _++_}
 use native.Mathlib.Omega.{arith}
 use lib.ListN.{length, take, drop, length-take, length-drop, take-append-drop}
 use lib.Seq.{drop-drop}
 use Rattle.rules.specs.Bytes.{every}
 use Rattle.rules.specs.Sentences.{isPayloadByte}
-use Rattle.laws.proofs.Bytes.{every-split}
+use Rattle.laws.proofs.Bytes.{every-split, every-take}
 use Rattle.stream_rules.specs.Heads.{payloadRun}
 
 -- how many payload bytes stand behind the first byte, without a gap
@@ -52,6 +52,22 @@ run-within (b ∷ bs) = by-byte (isPayloadByte b) (run-within bs)
     by-byte : (good : Bool) → length (payloadRun bs) ≤ length bs → length (cond good (b ∷ payloadRun bs) []) ≤ suc (length bs)
     by-byte true h = omega arith
     by-byte false h = omega arith
+
+-- It is as long as the list if, and only if, all are payload bytes.
+pub all-run : (bs : List ℕ) → length (payloadRun bs) ≡ length bs → every isPayloadByte bs ≡ true
+unfolding payloadRun every
+all-run [] e = refl
+all-run (b ∷ bs) e = by-byte (isPayloadByte b) (all-run bs) e
+  where
+    by-byte : (t : Bool) → (length (payloadRun bs) ≡ length bs → every isPayloadByte bs ≡ true) → length (cond t (b ∷ payloadRun bs) []) ≡ suc (length bs)
+        → (t && every isPayloadByte bs) ≡ true
+    by-byte true rest h = rest (omega (arith, h))
+    by-byte false rest h = absurd (omega (arith, h))
+
+pub run-all : (bs : List ℕ) → every isPayloadByte bs ≡ true → length (payloadRun bs) ≡ length bs
+run-all bs good =
+    let h = run-from bs 0 (length bs) (omega arith) (every-take isPayloadByte (length bs) bs good) in
+    omega (arith, h, run-within bs)
 
 pub run-inside : (bs : List ℕ) → 0 < length bs → run bs < length bs
 run-inside bs some = omega (arith, run-within (drop 1 bs), length-drop 1 bs)

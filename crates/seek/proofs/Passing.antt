@@ -63,6 +63,12 @@ module _ (family : ℕ) (spe : family ≡ 2 → ⊥) (bs : List ℕ) where
       with-marks 3 4 (omega arith) (omega arith) (omega arith)
       (λ marks. let h = no-count family spe bs there marks (mark-needs-none family (getD bs 3 0) mark) in (h .0, omega (arith, h .1)))
 
+-- A start at another byte than a mark, within some bytes.
+pub unmarked : (family : ℕ) (spe : family ≡ 2 → ⊥) (bs : List ℕ) (at : ℕ) → at < length bs → (getD bs at 0 ≡ markOf family → ⊥) → BadBy family (drop at bs) 1
+unmarked family spe bs at there other =
+    not-marked family spe (drop at bs) 0 (omega arith) (omega (arith, length-drop at bs))
+    (λ e. other (ap (λ (k : ℕ). getD bs k 0) (omega arith) ∙ sym (getD-drop at bs 0 0) ∙ e))
+
 -- Where the fourth byte is no mark, the three starts behind the first are bad, settled by that byte at the latest.
 pub behind-no-mark : (family : ℕ) (spe : family ≡ 2 → ⊥) (bs : List ℕ) → 4 ≤ length bs → (getD bs 3 0 ≡ markOf family → ⊥)
     → (j : ℕ) → 0 < j → j < 4 → BadBy family (drop j bs) (4 - j)

@@ -2,11 +2,11 @@
 -- begun at the first byte, the first stop is there.
 -- Assumes nothing.
 use Prim.Native.Nat.{ℕ, suc, max, _+_, _≤_, _<_}
-use mathlib.Core.Path.{_≡_, refl, sym, ap, subst, subst⁻¹, _∙_}
+use mathlib.Core.Path.{_≡_, refl, sym, ap, subst, _∙_}
 use mathlib.Core.List.{List}
 use native.Mathlib.Decide.{decLt, ℕ-discrete}
 use native.Mathlib.Omega.{arith}
-use lib.ListN.{length, take, drop, getD}
+use lib.ListN.{length, take, drop}
 use Rattle.rules.specs.Answers.{readOne}
 use Rattle.rules.specs.declared.Frame.{Frame}
 use Rattle.stream_rules.specs.Heads.{bad, good, headOf, head}
@@ -14,11 +14,11 @@ use Rattle.stream_rules.specs.Rule.{Look, byLook}
 use Rattle.stream_rules.specs.Settled.{reach}
 use Rattle.head_laws.proofs.Heads.{GoodHead, good-head}
 use Rattle.head_laws.proofs.PacketStarts.{Marks, bytes-missing, all-there}
+use Rattle.starts.proofs.Beginning.{Begun}
 use Rattle.heads.proofs.Starts.{at-least-six}
 use Rattle.seek_laws.proofs.Families.{facts}
 use Rattle.seek_laws.proofs.Starts.{BadBefore, look-at-good, look-at-wait, look-at-end}
 use Rattle.seek.specs.Sought.{SameFor, soughtIn, Stops}
-use Rattle.seek.specs.RowSought.{ReportBegun}
 use Rattle.seek.proofs.Stopping.{begins, goes-on, followed, whole-there, refused-whole, stops-waiting, stops-to-read}
 use Rattle.seek.specs.declared.Sought.{Sought}
 use Rattle.seek.specs.declared.Sought.the-variants.{Ready, Waiting}
@@ -77,32 +77,23 @@ module _ (family : ℕ) (s : List ℕ) (p : Stop) (stops : Stops family s 0 0 p)
       }
 
 -- The marks and the count of a report at the first byte: it is undecided, or whole.
-module _ (bs : List ℕ) (there : 4 ≤ length bs) (one : getD bs 0 0 ≡ 0xAA) (two : getD bs 1 0 ≡ 0xAA) (three : getD bs 2 0 ≡ 0xAA) (count : getD bs 3 0 ≡ 0x43) where
+module _ (bs : List ℕ) (b : Begun bs) where
   no-sentence : _≡_ {A = ℕ} 1 2 → ⊥
   no-sentence e = omega arith
 
   marks : Marks 1 3 bs
   marks i low =
       elim (ℕ-discrete i 0) [
-        | yes first ↦ rw first one
+        | yes first ↦ rw first (b .one)
         | no more ↦ elim (ℕ-discrete i 1) [
-          | yes second ↦ rw second two
-          | no last ↦ let third : i ≡ 2 = omega arith in rw third three
+          | yes second ↦ rw second (b .two)
+          | no last ↦ let third : i ≡ 2 = omega arith in rw third (b .three)
         ]
       ]
 
-  waits-first : length bs < 75 → Stops 1 bs 0 0 (record { at = 0; size = 0; reach = 0 })
-  waits-first few = stops-waiting 1 bs 0 0 0 0 (begins 1 bs 0 0) (bytes-missing 1 no-sentence bs there marks 75 (rw count) few)
+  pub begun-waits : length bs < 75 → Stops 1 bs 0 0 (record { at = 0; size = 0; reach = 0 })
+  begun-waits few = stops-waiting 1 bs 0 0 0 0 (begins 1 bs 0 0) (bytes-missing 1 no-sentence bs (b .there) marks 75 (rw (b .count)) few)
 
-  whole-first : 75 ≤ length bs → Stops 1 bs 0 0 (record { at = 0; size = 75; reach = 0 })
-  whole-first enough =
-      stops-to-read 1 bs 0 0 0 0 75 (begins 1 bs 0 0) (all-there 1 no-sentence bs there marks 75 (rw count) (omega arith) enough)
-
-module _ (family : ℕ) (bs : List ℕ) (b : ReportBegun family bs) where
-  pub begun-waits : length bs < 75 → Stops family bs 0 0 (record { at = 0; size = 0; reach = 0 })
-  begun-waits few =
-      subst⁻¹ (λ (f : ℕ). Stops f bs 0 0 (record { at = 0; size = 0; reach = 0 })) (b .0) (waits-first bs (b .1) (b .2) (b .3) (b .4) (b .5) few)
-
-  pub begun-whole : 75 ≤ length bs → Stops family bs 0 0 (record { at = 0; size = 75; reach = 0 })
+  pub begun-whole : 75 ≤ length bs → Stops 1 bs 0 0 (record { at = 0; size = 75; reach = 0 })
   begun-whole enough =
-      subst⁻¹ (λ (f : ℕ). Stops f bs 0 0 (record { at = 0; size = 75; reach = 0 })) (b .0) (whole-first bs (b .1) (b .2) (b .3) (b .4) (b .5) enough)
+      stops-to-read 1 bs 0 0 0 0 75 (begins 1 bs 0 0) (all-there 1 no-sentence bs (b .there) marks 75 (rw (b .count)) (omega arith) enough)

@@ -11,12 +11,12 @@ use native.Mathlib.Omega.{arith}
 use lib.ListN.{length, take, drop, length-drop}
 use lib.Seq.{drop-drop}
 use Rattle.rules.specs.Answers.{readOne}
-use Rattle.stream_rules.specs.Heads.{wait, bad, headOf, head}
+use Rattle.stream_rules.specs.Heads.{markOf, wait, bad, headOf, head}
 use Rattle.stream_rules.specs.Settled.{settled, reach}
 use Rattle.head_laws.proofs.Course.{headOf-decided}
 use Rattle.head_laws.proofs.Heads.{settling}
-use Rattle.seek.specs.Sought.{AtStop, Walks, Stops}
-use Rattle.seek.proofs.Passing.{SettledBy, BadBy}
+use Rattle.seek.specs.Sought.{AtStop, Walks, Unmarked, Stops}
+use Rattle.seek.proofs.Passing.{SettledBy, BadBy, unmarked}
 
 module _ (family : ℕ) (bs : List ℕ) where
   -- what stands at a place, with as many bytes as a frame there has
@@ -81,6 +81,17 @@ module _ (family : ℕ) (bs : List ℕ) where
         | yes first ↦ let same : at ≡ at + j = omega (arith, first) in rw (← same) (here .0, omega (arith, here .1, first))
         | no later ↦ rw (← drop-drop j at bs) (behind j (omega arith) p)
       ])
+
+  -- of an SPE family, those at bytes that are no marks
+  pub passes-unmarked : (spe : family ≡ 2 → ⊥) (from far at on to : ℕ) → Walks family bs from far at on → at ≤ to → to ≤ length bs
+      → Unmarked (markOf family) bs at to → Walks family bs from far to on
+  passes-unmarked spe from far at on to w ahead there none =
+      let same : at + (to - at) ≡ to = omega arith in
+      subst (λ (n : ℕ). Walks family bs from far n on) same
+      (skips from far at on (to - at) w (omega arith)
+      (λ j p.
+      let h = unmarked family spe bs (at + j) (omega arith) (none (at + j) (omega arith) (omega arith)) in
+      (h .0, omega (arith, h .1))))
 
   -- and of a bad start that is counted, with those behind it
   pub counts-and-passes : (from far at on next d k : ℕ) → Walks family bs from far at on → at + (k + 1) ≤ length bs → SettledBy family (drop at bs) d → next ≡ max on (at + d)

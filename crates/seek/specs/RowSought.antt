@@ -5,18 +5,18 @@ use mathlib.Core.Bool.{true, false, _&&_, cond}
 use mathlib.Core.List.{List}
 use lib.Dec.{leb}
 use lib.IntN.{ℤ}
-use lib.ListN.{length, getD}
+use lib.ListN.{length}
 use Rattle.stream_rules.specs.Streams.{wrap}
+use Rattle.starts.specs.Begins.{beginsReport}
 use Rattle.rows.specs.Rows.{row, rowWithout, front}
 use Rattle.seek.specs.Sought.{soughtIn}
 use Rattle.seek.specs.declared.Sought.{Sought}
 use Rattle.seek.specs.declared.Sought.the-variants.{Ready, Waiting}
 use Rattle.seek.specs.declared.laying.Place.{Place}
 
--- a report has begun at the first byte: three marks of family 1, and the count 43
+-- a report begins at the first byte, of family 1
 abbrev pub ReportBegun : ℕ → List ℕ → Type 0
-ReportBegun family bs =
-    (family ≡ 1) × (4 ≤ length bs) × (getD bs 0 0 ≡ 0xAA) × (getD bs 1 0 ≡ 0xAA) × (getD bs 2 0 ≡ 0xAA) × (getD bs 3 0 ≡ 0x43)
+ReportBegun family bs = (family ≡ 1) × (beginsReport bs ≡ true)
 
 -- What was sought in so many bytes, of which the first were held: where it is, and its row. A call takes the bytes up to those
 -- that settled a frame and the starts before it, and not fewer than were held; or all of them.

@@ -2,7 +2,7 @@
 use Prim.Native.Nat.{ℕ, suc, max, _+_, _≤_, _<_}
 use mathlib.Core.Path.{_≡_}
 use mathlib.Core.List.{List}
-use lib.ListN.{length, take, drop}
+use lib.ListN.{length, take, drop, getD}
 use Rattle.rules.specs.Answers.{readOne}
 use Rattle.stream_rules.specs.Heads.{wait, bad, headOf, head, atClose}
 use Rattle.stream_rules.specs.Rule.{look, byLook}
@@ -32,6 +32,10 @@ pub record Walks (family : ℕ) (bs : List ℕ) (from far at on : ℕ) : Type 0 
   pub within : from ≤ length bs → at ≤ length bs
   pub passes : (j : ℕ) → from ≤ j → j < at → head family (drop j bs) ≡ bad
   pub reaches : SameFor from far (reach family from bs) → SameFor at on (reach family at bs)
+
+-- from a place to another no byte is a mark
+abbrev pub Unmarked : ℕ → List ℕ → ℕ → ℕ → Type 0
+Unmarked mark bs from to = (j : ℕ) → from ≤ j → j < to → getD bs j 0 ≡ mark → ⊥
 
 -- the first stop from a place on
 pub record Stops (family : ℕ) (bs : List ℕ) (from far : ℕ) (r : Stop) : Type 0 where

@@ -6,6 +6,7 @@ use frame_rows::read_row;
 use leaves::further;
 use rows::lay_head;
 use stamps::advanced;
+use starts::begins_report;
 ghost use mathlib.Core.Path.{_≡_};
 ghost use mathlib.Core.Bool.{true};
 ghost use Prim.Native.Nat.{_≤_};
@@ -24,17 +25,14 @@ pub struct Place {
     pub to: usize,
 }
 
-// True only where a report has begun at the first byte: by its marks and its count.
+// True only where a report begins at the first byte, of family 1.
 fn report_begun(family: u8, s: &[u8]) -> bool
     ensures { λ r. ⌜ (r ≡ true → ReportBegun family (now (s .entry))) ⌝ }
 {
     if family != 1 {
         return false;
     }
-    if s.len() < 4 {
-        return false;
-    }
-    (s[0] == 0xAA) & (s[1] == 0xAA) & (s[2] == 0xAA) & (s[3] == 0x43)
+    begins_report(s)
 }
 
 // The first stop. A report that has begun and is whole is one: the walk need not be asked.

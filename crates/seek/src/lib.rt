@@ -19,7 +19,7 @@ ghost use mathlib.Core.Bool.{true, false};
 ghost use Prim.Native.Nat.{_≤_, _<_};
 ghost use lib.ListN.{length, getD};
 ghost use Rattle.rules.specs.Answers.{isGood, readOne};
-ghost use Rattle.seek.specs.Sought.{soughtIn, firstFrom, Stops};
+ghost use Rattle.seek.specs.Sought.{soughtIn, firstFrom, Unmarked, Stops};
 
 // A good frame whose earlier starts are all bad: its place, its length, how far the bytes reach that
 // settled it and those, and what it says.
@@ -89,6 +89,40 @@ fn passed_with(left: usize) -> usize
     1
 }
 
+// True only where no mark stands in a block of 16 bytes. No byte ends the loop, so that it can be compiled to test all
+// of them at once.
+fn no_mark(mark: u8, block: &[u8]) -> bool
+    requires { ⌜ length (now block) ≡ 16 ⌝ }
+    ensures { λ r. ⌜ (r ≡ true → Unmarked mark (now (block .entry)) 0 16) ⌝ }
+{
+    let mut none = true;
+    let mut i = 0;
+    while i < 16 {
+        none = none & (block[i] != mark);
+        i += 1;
+    }
+    none
+}
+
+// A place behind whole blocks without a mark: no frame starts in them. Among commands, which are shorter than a block,
+// there are next to none, and none is looked for.
+fn past_unmarked(family: u8, mark: u8, s: &[u8], from: usize) -> usize
+    requires { ⌜ from ≤ length (now s) ⌝ }
+    ensures { λ r. ⌜ (from ≤ r) × (r ≤ length (now (s .entry))) × Unmarked mark (now (s .entry)) from r ⌝ }
+{
+    if family != 1 {
+        return from;
+    }
+    let mut at = from;
+    while 16 <= s.len() - at {
+        if !no_mark(mark, &s[at..at + 16]) {
+            return at;
+        }
+        at += 16;
+    }
+    at
+}
+
 // The first stop from a place on, of packets and reports. No count is a mark.
 fn packet_stop(family: u8, s: &[u8], from: usize, far: usize) -> Stop
     requires { ⌜ (family ≡ 2 → ⊥) ⌝ }
@@ -114,7 +148,7 @@ fn packet_stop(family: u8, s: &[u8], from: usize, far: usize) -> Stop
             Seen::Undecided => return Stop { at, size: 0, reach },
             Seen::Bad(_) => {}
         }
-        at += passed_with(s.len() - at);
+        at = past_unmarked(family, mark, s, at + passed_with(s.len() - at));
     }
     Stop { at, size: 0, reach }
 }

@@ -1,5 +1,5 @@
-// What a start is known by: the mark of its family, what a count needs, and the payload bytes behind a
-// dollar sign.
+// What a start is known by: the mark of its family, what a count needs and the longest frame, the first bytes of a
+// report, and the payload bytes behind a dollar sign.
 use fletcher::payload_byte;
 use leaves::text;
 ghost use mathlib.Core.Path.{_≡_};
@@ -7,7 +7,8 @@ ghost use Prim.Native.Nat.{min};
 ghost use lib.ListN.{length};
 ghost use Rattle.rules.specs.Bytes.{every};
 ghost use Rattle.rules.specs.Sentences.{isPayloadByte};
-ghost use Rattle.stream_rules.specs.Heads.{markOf, needs, payloadRun};
+ghost use Rattle.stream_rules.specs.Heads.{markOf, needs, longest, payloadRun};
+ghost use Rattle.starts.specs.Begins.{beginsReport};
 
 // The mark of an SPE family.
 pub fn mark_of(family: u8) -> u8
@@ -27,6 +28,29 @@ pub fn bytes_needed(family: u8, count: u8) -> usize
         return 75;
     }
     0
+}
+
+// The longest frame of a family.
+pub fn longest_frame(family: u8) -> usize
+    ensures { λ r. ⌜ r ≡ longest family ⌝ }
+{
+    if family == 1 {
+        return 75;
+    }
+    if family == 2 {
+        return 134;
+    }
+    6
+}
+
+// Whether a report begins at the first byte: three marks of family 1, and the count 43.
+pub fn begins_report(s: &[u8]) -> bool
+    ensures { λ r. ⌜ r ≡ beginsReport (now (s .entry)) ⌝ }
+{
+    if s.len() < 4 {
+        return false;
+    }
+    (s[0] == 0xAA) & (s[1] == 0xAA) & (s[2] == 0xAA) & (s[3] == 0x43)
 }
 
 // Whether a block of 16 bytes is all payload bytes. No byte ends the loop, so that it can be compiled
@@ -77,4 +101,22 @@ pub fn payload_bytes(p: &[u8]) -> usize
     ensures { λ r. ⌜ r ≡ min (length (payloadRun (now (p .entry)))) 129 ⌝ }
 {
     run_by_blocks(text(p, 0, 129))
+}
+
+// Whether all of the bytes are payload bytes. The last 16 are seen as a block, which may overlap the one before it.
+pub fn is_payload(p: &[u8]) -> bool
+    ensures { λ r. ⌜ r ≡ every isPayloadByte (now (p .entry)) ⌝ }
+{
+    let n = p.len();
+    if n < 16 {
+        return run_by_bytes(p) == n;
+    }
+    let mut at = 0;
+    while 16 < n - at {
+        if !all_payload(&p[at..at + 16]) {
+            return false;
+        }
+        at += 16;
+    }
+    all_payload(&p[n - 16..])
 }

@@ -12,11 +12,11 @@ use lib.ListN.{length, take, getD}
 use Rattle.rules.specs.Bytes.{ascii, oneOf, between, every, same, first, total}
 use Rattle.rules.specs.Numbers.{isDigit, decimal, padded, paddedNumber, pointed, pointedNumber}
 use Rattle.rules.specs.Status.{joined, cut, widths, field, readable, statusInRange, statusOf}
-use Rattle.laws.proofs.Bytes.{one-by-one, places, every-weaker, one-of-these}
+use Rattle.laws.proofs.Bytes.{one-by-one, places, every-weaker, one-of-these, alike}
 use Rattle.laws.proofs.Fields.{commasAt, commas-at}
 use Rattle.leaves.specs.Leaves.{inBounds}
 use Rattle.status_tests.specs.Tests.{bandTo, noneAboveZero, limits20K, limits13K, allFollow, lettersGood, limitsGood}
-use Rattle.status_tests.proofs.Texts.{alike, spacesFirst, input-text, band-text, id-text, first-tells, letter-text, bank-text, transmit-text, receive-text, number-text, point-text, warmth-text}
+use Rattle.status_tests.proofs.Texts.{spacesFirst, input-text, band-text, id-text, first-tells, letter-text, bank-text, transmit-text, receive-text, number-text, point-text, warmth-text}
 use Rattle.status_tests.proofs.Bounds.{textsWithin, within-joined}
 
 -- the least and the most of each field's bytes

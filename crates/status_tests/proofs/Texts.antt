@@ -11,16 +11,10 @@ use lib.Dec.{eqb, leb}
 use lib.ListN.{length, replicate}
 use Rattle.rules.specs.Bytes.{ascii, oneOf, between, every}
 use Rattle.rules.specs.Numbers.{isDigit, decimal, decimalFrom, padded, paddedNumber, pointed, pointedNumber}
-use Rattle.laws.proofs.Bytes.{either, answer, both, both-pass, one-of-these, every-split}
+use Rattle.laws.proofs.Bytes.{either, answer, both, both-pass, alike, one-of-these, every-split}
 use Rattle.laws.proofs.Numbers.{padded-below, pointed-below}
 use Rattle.leaves.specs.Leaves.{inBounds}
 use Rattle.status_tests.specs.Tests.{follows, noneAboveZero}
-
--- two tests that pass together are the same
-pub alike : (a b : Bool) → (a ≡ true → b ≡ true) → (b ≡ true → a ≡ true) → a ≡ b
-alike true b f g = sym (f refl)
-alike false true f g = g refl
-alike false false f g = refl
 
 -- one of two passes if the second does where the first fails
 or-else : (a b : Bool) → (a ≡ false → b ≡ true) → (a || b) ≡ true

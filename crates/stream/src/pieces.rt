@@ -43,19 +43,6 @@ pub struct Next {
     pub count: usize,
 }
 
-// The longest frame of a family.
-pub fn longest_frame(family: u8) -> usize
-    ensures { λ r. ⌜ r ≡ longest family ⌝ }
-{
-    if family == 1 {
-        return 75;
-    }
-    if family == 2 {
-        return 134;
-    }
-    6
-}
-
 // Some bytes of a slice in the held places, with zeros behind them.
 pub(crate) fn keep(s: &[u8], a: usize, n: usize) -> [u8; 133]
     requires { ⌜ (a + n ≤ length (now s)) × (n ≤ 133) ⌝ }

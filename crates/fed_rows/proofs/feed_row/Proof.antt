@@ -1,12 +1,16 @@
 -- `fed_rows::feed_row` meets its contract: each way of its own is the call on that reader, and where none is taken, nothing is changed
 -- before the general way.
 -- Assumes nothing.
-use Prim.Native.Nat.{_≤_}
-use mathlib.Core.Path.{_≡_, sym, ap, _∙_}
+use Prim.Native.Nat.{ℕ, _≤_}
+use mathlib.Core.Path.{_≡_, refl, sym, ap, _∙_}
+use mathlib.Core.List.{List}
 use mathlib.Core.Logic.{⊎-elim}
 use native.Mathlib.Omega.{arith}
 use borrow.Author.Tests.{not-false}
+use lib.IntN.{ℤ}
 use lib.ListN.{length}
+use Rattle.fed_rows.specs.FedRows.{FeedsRowAt}
+use Rattle.fed_rows.specs.declared.Counts.{Counts}
 use borrow.Author.Needs.{needs}
 use Rattle.fed_rows.proofs.feed_row.Statement.{statement}
 use Rattle.fed_rows.proofs.feed_row.Tie as tie
@@ -27,8 +31,14 @@ unchanged : (j : tie.Joined2) → (j .if2 .held ≡ start (j .before) .args .hel
 unchanged j =
     ⊎-elim
     (λ w. let none = w .3 .ensures .none (w .5 .left) in (w .6 ∙ none .0, w .7 ∙ none .1))
-    (λ w. (w .1, w .2))
+    (λ w. (w .4, w .5))
     (j .if2 .came)
+
+-- so what a call then does is what the call does
+module _ (family closed shut count at skipped : ℕ) (held places offered after : List ℕ) (numbers row left : List ℤ) (c : Counts) where
+  as-before : shut ≡ closed → (places ≡ held) × (row ≡ numbers) → FeedsRowAt family shut count places at skipped offered row c after left
+      → FeedsRowAt family closed count held at skipped offered numbers c after left
+  as-before is same feeds = rw (is, same .0, same .1) at feeds
 
 size-requires : tie.Need-size-requires
 size-requires c κs = search needs
@@ -66,6 +76,21 @@ returns-2 c = λ long.
     rw (c .left-so2 .ensures, told (then .before) .0, then .if2 .taken, c .before .advanced .ensures)
     (c .before .before .before .before .front-frame .ensures .handed (c .before .before .if3 .taken))
 
+goes-on-requires : tie.Need-goes-on-requires
+goes-on-requires c κs = search needs
+
+feed-on-requires : tie.Need-feed-on-requires
+feed-on-requires c κs =
+    let then = c .before .before in
+    let e = c .before .before .before .before .before .before in
+    (then .before .goes-on .ensures (then .if4 .taken) (places e), told e .2, places e)
+
+same-length-3 : tie.Need-same-length-3
+same-length-3 c = search needs
+
+returns-3 : tie.Need-returns-3
+returns-3 c = let e = c .before .before .before .before .before .before .before .before in rw (told e .0) (c .before .feed-on .ensures)
+
 is-few-requires : tie.Need-is-few-requires
 is-few-requires c κs = search needs
 
@@ -73,18 +98,17 @@ feed-few-requires : tie.Need-feed-few-requires
 feed-few-requires c κs =
     let then = c .before .before in
     let j = then .before .before in
-    let few = then .before .is-few .ensures (then .if4 .taken) in
+    let few = then .before .is-few .ensures (then .if5 .taken) in
     let same = unchanged j in
     (few .0, few .1, few .2, omega (arith, told (j .before) .2, ap length (same .1)), ap length (same .0) ∙ places (j .before))
 
-same-length-3 : tie.Need-same-length-3
-same-length-3 c = c .numbers3 .given ∙ ap length (unchanged (c .before .before .before .before .before .before) .1)
+same-length-4 : tie.Need-same-length-4
+same-length-4 c = c .numbers4 .given ∙ ap length (unchanged (c .before .before .before .before .before .before) .1)
 
-returns-3 : tie.Need-returns-3
-returns-3 c = λ long.
+returns-4 : tie.Need-returns-4
+returns-4 c =
     let j = c .before .before .before .before .before .before in
-    let same = unchanged j in
-    rw (told (j .before) .0, ← same .0, ← same .1) (c .before .feed-few .ensures (ap length (same .0) ∙ places (j .before)))
+    as-before _ _ 0 _ _ _ _ _ _ _ _ _ _ _ (sym (told (j .before) .0)) (unchanged j) (c .before .feed-few .ensures)
 
 feed-any-requires-2 : tie.Need-feed-any-requires-2
 feed-any-requires-2 c κs = search needs
@@ -92,14 +116,13 @@ feed-any-requires-2 c κs = search needs
 left-so-requires-3 : tie.Need-left-so-requires-3
 left-so-requires-3 c κs = search needs
 
-same-length-4 : tie.Need-same-length-4
-same-length-4 c = c .before .numbers4 .given ∙ ap length (unchanged (c .before .before .before .before .before .before .before) .1)
+same-length-5 : tie.Need-same-length-5
+same-length-5 c = c .before .numbers5 .given ∙ ap length (unchanged (c .before .before .before .before .before .before .before) .1)
 
-returns-4 : tie.Need-returns-4
-returns-4 c = λ long.
+returns-5 : tie.Need-returns-5
+returns-5 c =
     let j = c .before .before .before .before .before .before .before in
-    let same = unchanged j in
-    rw (c .left-so3 .ensures, ← same .0, ← same .1) (c .before .before .feed-any2 .ensures (ap length (same .0) ∙ places (j .before)))
+    rw (c .left-so3 .ensures) (as-before _ _ _ _ _ _ _ _ _ _ _ _ _ _ refl (unchanged j) (c .before .before .feed-any2 .ensures))
 
 pub feed-row-spec : {M : Type 1} → statement M
 feed-row-spec =
@@ -116,11 +139,15 @@ feed-row-spec =
     left-so-requires-2
     same-length-2
     returns-2
-    is-few-requires
-    feed-few-requires
+    goes-on-requires
+    feed-on-requires
     same-length-3
     returns-3
+    is-few-requires
+    feed-few-requires
+    same-length-4
+    returns-4
     feed-any-requires-2
     left-so-requires-3
-    same-length-4
-    returns-4)
+    same-length-5
+    returns-5)

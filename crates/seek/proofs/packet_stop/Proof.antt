@@ -1,6 +1,6 @@
 -- `seek::packet_stop` meets its contract. The loop's invariant is the walk so far. The measure is what is left of the bytes.
 -- Assumes nothing.
-use Prim.Native.Nat.{ℕ, _-_, _≤_, _<_}
+use Prim.Native.Nat.{ℕ, _+_, _-_, _≤_, _<_}
 use mathlib.Core.Path.{_≡_, sym, ap, subst, _∙_}
 use mathlib.Core.Bool.{false}
 use mathlib.Core.List.{List}
@@ -16,7 +16,7 @@ use Rattle.heads.proofs.Starts.{seen-whole, seen-bad, seen-undecided, bad-soon,
 use Rattle.seek.specs.Sought.{Walks}
 use Rattle.seek.proofs.Passing.{BadBy, mark-is-no-count, behind-no-mark}
 use Rattle.seek.proofs.Soon.{not-good}
-use Rattle.seek.proofs.Stopping.{WholeAt, part-there, begins, passes-over, counts-and-passes, whole-there, refused-whole, stops-waiting, stops-at-end, stops-to-read}
+use Rattle.seek.proofs.Stopping.{WholeAt, part-there, begins, passes-over, passes-unmarked, counts-and-passes, whole-there, refused-whole, stops-waiting, stops-at-end, stops-to-read}
 use Rattle.seek.proofs.packet_stop.Statement.{statement}
 use Rattle.seek.proofs.packet_stop.Tie as tie
 
@@ -74,6 +74,23 @@ step c =
       | yes few ↦ let one = c .passed-with .ensures .1 few in (omega (arith, one), omega (arith, one))
       | no some ↦ let four = c .passed-with .ensures .0 (omega arith) in (omega (arith, four), omega (arith, four))
     ]
+
+stepped : (c : tie.After-passed-with Inv-loop μ-loop)
+    → Walks (c .before .before .before .before .before .before .before .before .before .before .before .before .args .family) (c .before .before .before .before .before .before .before .before .before .before .before .before .args .s .now) (c .before .before .before .before .before .before .before .before .before .before .before .before .args .from) (c .before .before .before .before .before .before .before .before .before .before .before .before .args .far) (c .before .before .before .before .before .before .before .before .before .loop .at + c .passed-with .result) (c .before .before .before .before .before .before .before .before .before .loop .reach)
+stepped c =
+    let a = c .before .before .before .before .before .before .before .before .before .before .before .before .args in
+    let loop = c .before .before .before .before .before .before .before .before .before .loop in
+    let k = c .passed-with .result in
+    let bad-here = broken (c .before) in
+    passes-over (a .family) (a .s .now) (a .from) (a .far) (loop .at) (loop .reach) k (loop .inv) (omega (arith, step c)) (bad-here .0, omega (arith, bad-here .1))
+    (λ j p q.
+    elim (decLt (length (a .s .now) - loop .at) 4) [
+      | yes few ↦ absurd (omega (arith, c .passed-with .ensures .1 few))
+      | no some ↦
+          let four = c .passed-with .ensures .0 (omega arith) in
+          let h = behind (c .before .before .before .before .before) (omega arith) j p (omega (arith, four)) in
+          (h .0, omega (arith, h .1))
+    ])
 
 mark-of-requires : tie.Need-mark-of-requires Inv-loop μ-loop
 mark-of-requires c κs = search needs
@@ -185,27 +202,23 @@ sub-passed-with c = omega arith
 passed-with-requires : tie.Need-passed-with-requires Inv-loop μ-loop
 passed-with-requires c κs = search needs
 
-add-at-3 : tie.Need-add-at-3 Inv-loop μ-loop
-add-at-3 c = omega (arith, step c)
+add-past-unmarked : tie.Need-add-past-unmarked Inv-loop μ-loop
+add-past-unmarked c = omega (arith, step c)
+
+past-unmarked-requires : tie.Need-past-unmarked-requires Inv-loop μ-loop
+past-unmarked-requires c κs = omega (arith, step c)
 
 loop-less-3 : tie.Need-loop-less-3 Inv-loop μ-loop
-loop-less-3 c = omega (arith, step c)
+loop-less-3 c = omega (arith, step (c .before), c .past-unmarked .ensures .0, c .past-unmarked .ensures .1)
 
 loop-again-3 : tie.Need-loop-again-3 Inv-loop μ-loop
 loop-again-3 c =
-    let a = c .before .before .before .before .before .before .before .before .before .before .before .before .args in
-    let loop = c .before .before .before .before .before .before .before .before .before .loop in
-    let k = c .passed-with .result in
-    let bad-here = broken (c .before) in
-    passes-over (a .family) (a .s .now) (a .from) (a .far) (loop .at) (loop .reach) k (loop .inv) (omega (arith, step c)) (bad-here .0, omega (arith, bad-here .1))
-    (λ j p q.
-    elim (decLt (length (a .s .now) - loop .at) 4) [
-      | yes few ↦ absurd (omega (arith, c .passed-with .ensures .1 few))
-      | no some ↦
-          let four = c .passed-with .ensures .0 (omega arith) in
-          let h = behind (c .before .before .before .before .before) (omega arith) j p (omega (arith, four)) in
-          (h .0, omega (arith, h .1))
-    ])
+    let k = c .before in
+    let a = k .before .before .before .before .before .before .before .before .before .before .before .before .args in
+    let spe = k .before .before .before .before .before .before .before .before .before .before .before .before .pre in
+    let past = c .past-unmarked .ensures in
+    let mark-is = k .before .before .before .before .before .before .before .before .before .before .mark-of .ensures in
+    passes-unmarked (a .family) (a .s .now) spe (a .from) (a .far) _ _ _ (stepped k) (past .0) (past .1) (λ j p q e. past .2 j p q (e ∙ sym mark-is))
 
 returns-3 : tie.Need-returns-3 Inv-loop μ-loop
 returns-3 c = stops-at-end (c .before .before .before .before .args .family) (c .before .before .before .before .args .s .now) (c .before .before .before .before .args .from) (c .before .before .before .before .args .far) (c .before .loop .at) _ (c .before .loop .inv) (omega arith)
@@ -246,7 +259,8 @@ packet-stop-spec =
     enum-told-2
     sub-passed-with
     passed-with-requires
-    add-at-3
+    add-past-unmarked
+    past-unmarked-requires
     loop-less-3
     loop-again-3
     returns-3)

@@ -1,12 +1,13 @@
 -- `seek::laying::first_stop` meets its contract: a whole report is a stop, and else the walk has found it.
 -- Assumes nothing.
+use Rattle.starts.proofs.Beginning.{begun}
 use Rattle.seek.proofs.Searching.{begun-whole}
 use borrow.Author.Needs.{needs}
 use Rattle.seek.proofs.laying.first_stop.Statement.{statement}
 use Rattle.seek.proofs.laying.first_stop.Tie as tie
 
 returns : tie.Need-returns
-returns c = let b = c .before .before .pre (c .if1 .taken) in begun-whole _ _ (b .0) (b .1)
+returns c = let b = c .before .before .pre (c .if1 .taken) in rw (b .0 .0) (begun-whole _ (begun _ (b .0 .1)) (b .1))
 
 next-stop-requires : tie.Need-next-stop-requires
 next-stop-requires c κs = search needs

@@ -13,7 +13,8 @@ use lib.IntN.{ℤ}
 use lib.ListN.{length}
 use Rattle.laws.proofs.Bytes.{both}
 use Rattle.rows.specs.Rows.{front}
-use Rattle.seek.specs.Sought.{soughtIn}
+use Rattle.starts.proofs.Beginning.{begun}
+use Rattle.seek.specs.Sought.{soughtIn, Stops}
 use Rattle.seek.specs.RowSought.{placeOf, rowOf, LaysSought, SeeksRow}
 use Rattle.seek.specs.declared.Sought.{Sought}
 use Rattle.seek.specs.declared.laying.Place.{Place}
@@ -72,7 +73,9 @@ returns-2 c =
     let a = c .before .before .before .before .before .before .before .args in
     let then = c .before .before .before in
     let tests = both (then .before .report-begun .result) (ltb (length (a .s .now)) 75) (then .if2 .taken) in
-    let stops = begun-waits (a .family) (a .s .now) (then .before .report-begun .ensures (tests .0)) (ltb-true (length (a .s .now)) 75 (tests .1)) in
+    let report = then .before .report-begun .ensures (tests .0) in
+    let stops : Stops (a .family) (a .s .now) 0 0 (record { at = 0; size = 0; reach = 0 }) =
+    rw (report .0) (begun-waits (a .s .now) (begun (a .s .now) (report .1)) (ltb-true (length (a .s .now)) 75 (tests .1))) in
     let is = waiting (a .family) (a .s .now) _ stops refl in
     let waits = c .before .lay-waiting .ensures in
     laid (a .family) (a .s .now) (a .count) (a .at) (a .skipped) (a .numbers .now) (enough (then .before .before)) _ _

@@ -1,8 +1,8 @@
--- `stream::pieces::longest_frame` meets its contract: the tests of the family pick the length.
+-- `starts::longest_frame` meets its contract: the tests of the family pick the length.
 -- Assumes nothing.
 use borrow.Author.Tests.{eq-eqb, ne-eqb}
-use Rattle.stream.proofs.pieces.longest_frame.Statement.{statement}
-use Rattle.stream.proofs.pieces.longest_frame.Tie as tie
+use Rattle.starts.proofs.longest_frame.Statement.{statement}
+use Rattle.starts.proofs.longest_frame.Tie as tie
 
 returns : tie.Need-returns
 returns c = rw (eq-eqb (c .before .args .family) 1 (c .if1 .taken))

@@ -1,0 +1,2 @@
+-- `Beginning` has what the first bytes of a report say.
+pub mod Beginning

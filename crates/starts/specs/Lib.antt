@@ -1,0 +1,2 @@
+-- The first bytes of a report.
+pub mod Begins
