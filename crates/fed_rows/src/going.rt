@@ -4,7 +4,8 @@
 use crate::Counts;
 use crate::left_so;
 use leaves::text;
-use places::append;
+use places::keep_part;
+use places::lay;
 use rows::lay_head;
 use starts::begins_report;
 use starts::is_payload;
@@ -75,7 +76,9 @@ pub(crate) fn feed_on(
     ensures { λ c. ⌜ FeedsRowAt family 0 count (now (held .entry)) at skipped (now (others .entry)) (now (numbers .entry)) c (now (held .exit)) (now (numbers .exit)) ⌝ }
 {
     let used = count as usize;
-    append(held, used, others);
+    let all = used + others.len();
+    lay(held, used, others);
+    keep_part(held, 0, all);
     lay_head(5, 0, others.len(), 0, 0, 0, numbers);
-    left_so(0, (used + others.len()) as u8, at, skipped)
+    left_so(0, all as u8, at, skipped)
 }

@@ -9,9 +9,9 @@ use going::feed_on;
 use going::goes_on;
 use leaves::is_family;
 use leaves::text;
-use places::append;
 use places::clear;
 use places::keep_part;
+use places::lay;
 use places::size;
 use rows::lay_answer;
 use rows::lay_head;
@@ -92,12 +92,12 @@ fn feed_few(
     ensures { λ c. ⌜ FeedsRowAt family 0 count (now (held .entry)) at skipped (now (few .entry)) (now (numbers .entry)) c (now (held .exit)) (now (numbers .exit)) ⌝ }
 {
     let used = count as usize;
-    append(held, used, few);
+    lay(held, used, few);
     let all = used + few.len();
     let place = seek_row(family, text(held, 0, all), used, at, skipped, numbers);
     let from = place.start + place.length;
     let left = place.to - from;
-    keep_part(held, all, from, left);
+    keep_part(held, from, left);
     // a frame has some bytes
     if place.length == 0 {
         return Counts {

@@ -4,7 +4,9 @@ use Prim.Native.Nat.{ℕ}
 use mathlib.Core.Path.{_≡_, sym, _∙_}
 use mathlib.Core.List.{List, []}
 use lib.ListN.{length}
-use Rattle.places.specs.Held.{filled, appended, keptPart}
+use Rattle.rules.specs.Bytes.{part}
+use Rattle.pens.specs.Pens.{laid}
+use Rattle.places.specs.Held.{filled}
 
 -- a content that is named, of places that are 133
 abbrev Leaves : List ℕ → List ℕ → List ℕ → Type 0
@@ -13,13 +15,12 @@ Leaves places content exit = length places ≡ 133 → exit ≡ content
 one-content : (places content x y : List ℕ) → length places ≡ 133 → Leaves places content x → Leaves places content y → x ≡ y
 one-content places content x y long p q = p long ∙ sym (q long)
 
-pub append-single : (places : List ℕ) (count : ℕ) (few x y : List ℕ) → length places ≡ 133
-    → Leaves places (appended count few places) x → Leaves places (appended count few places) y → x ≡ y
-append-single places count few x y long p q = one-content places _ x y long p q
+pub lay-single : (places : List ℕ) (at : ℕ) (few x y : List ℕ) → length places ≡ 133 → Leaves places (laid at few places) x → Leaves places (laid at few places) y → x ≡ y
+lay-single places at few x y long p q = one-content places _ x y long p q
 
-pub keep-part-single : (places : List ℕ) (all a n : ℕ) (x y : List ℕ) → length places ≡ 133
-    → Leaves places (keptPart all a n places) x → Leaves places (keptPart all a n places) y → x ≡ y
-keep-part-single places all a n x y long p q = one-content places _ x y long p q
+pub keep-part-single : (places : List ℕ) (a n : ℕ) (x y : List ℕ) → length places ≡ 133
+    → Leaves places (filled (part a n places)) x → Leaves places (filled (part a n places)) y → x ≡ y
+keep-part-single places a n x y long p q = one-content places _ x y long p q
 
 pub clear-single : (places x y : List ℕ) → length places ≡ 133 → Leaves places (filled []) x → Leaves places (filled []) y → x ≡ y
 clear-single places x y long p q = one-content places _ x y long p q

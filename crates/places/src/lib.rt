@@ -1,5 +1,5 @@
 // The held places of a stream reader, which are lent and altered where they stand: bytes laid behind those held,
-// a part of them kept, and zeros behind what they hold.
+// and a part of them kept, with zeros behind it.
 use leaves::text;
 use pens::put_bytes;
 ghost use mathlib.Core.Path.{_≡_};
@@ -7,8 +7,9 @@ ghost use mathlib.Core.Bool.{true};
 ghost use mathlib.Core.List.{[]};
 ghost use Prim.Native.Nat.{_+_, _≤_};
 ghost use lib.ListN.{length, take};
+ghost use Rattle.rules.specs.Bytes.{part};
 ghost use Rattle.pens.specs.Pens.{laid};
-ghost use Rattle.places.specs.Held.{filled, appended, keptPart};
+ghost use Rattle.places.specs.Held.{filled};
 
 // How many places there are: a function of its own, because a proof knows no length of an array behind a
 // reference, and has it of the slice that this is lent.
@@ -56,38 +57,26 @@ fn put_block(places: &mut [u8; 133], at: usize, few: &[u8])
     }
 }
 
-// Bytes laid at a place, sixteen of them as a block.
-fn lay_at(places: &mut [u8; 133], at: usize, few: &[u8])
-    requires { ⌜ at + length (now few) ≤ 133 ⌝ }
+// Bytes laid at a place, where there is room for them, sixteen of them as a block. The other places stay as they are.
+pub fn lay(places: &mut [u8; 133], at: usize, few: &[u8])
     ensures { λ _. ⌜ (length (now (places .entry)) ≡ 133 → now (places .exit) ≡ laid at (now (few .entry)) (now (places .entry))) ⌝ }
 {
-    if few.len() == 16 {
+    if few.len() != 16 {
+        put_bytes(places, at, few);
+        return;
+    }
+    if at <= 117 {
         put_block(places, at, few);
-        return;
     }
-    put_bytes(places, at, few);
 }
 
-// Bytes laid behind the first ones, with zeros behind them, where there is room for them.
-pub fn append(places: &mut [u8; 133], count: usize, few: &[u8])
-    ensures { λ _. ⌜ (length (now (places .entry)) ≡ 133 → now (places .exit) ≡ appended count (now (few .entry)) (now (places .entry))) ⌝ }
+// Keeps so many places from one of them on, with zeros behind them. From the front there is nothing to move, and where they
+// are none, nothing to copy.
+pub fn keep_part(places: &mut [u8; 133], a: usize, n: usize)
+    ensures { λ _. ⌜ (length (now (places .entry)) ≡ 133 → now (places .exit) ≡ filled (part a n (now (places .entry)))) ⌝ }
 {
-    if 133 < count {
-        return;
-    }
-    if 133 - count < few.len() {
-        return;
-    }
-    lay_at(places, count, few);
-    clear_from(places, count + few.len());
-}
-
-// Keeps so many places from one of them on, with zeros behind them. Where they are as many as `all`, which stand at the
-// front, everything stays as it is; where they are none, there is nothing to copy.
-pub fn keep_part(places: &mut [u8; 133], all: usize, a: usize, n: usize)
-    ensures { λ _. ⌜ (length (now (places .entry)) ≡ 133 → now (places .exit) ≡ keptPart all a n (now (places .entry))) ⌝ }
-{
-    if n == all {
+    if a == 0 {
+        clear_from(places, n);
         return;
     }
     if n == 0 {

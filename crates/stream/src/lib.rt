@@ -10,8 +10,8 @@ use pieces::Next;
 use pieces::Step;
 use pieces::advance;
 use pieces::keep;
-use places::append;
 use places::keep_part;
+use places::lay;
 use places::size;
 use seek::First;
 use seek::Sought;
@@ -96,12 +96,12 @@ fn take_few(
     requires { ⌜ (count < longest family) × (count + length (now few) ≤ 133) × (length (now held) ≡ 133) ⌝ }
     ensures { λ m. ⌜ Takes family (now (held .entry)) count at skipped (now (few .entry)) (now (held .exit)) m ⌝ }
 {
-    append(held, count, few);
+    lay(held, count, few);
     let all = count + few.len();
     match seek(family, text(held, 0, all)) {
         Sought::Waiting(from) => {
             let left = all - from;
-            keep_part(held, all, from, left);
+            keep_part(held, from, left);
             let step = Step::Waiting(few.len(), from);
             answered(at, skipped, Next { step, count: left })
         }
@@ -111,7 +111,7 @@ fn take_few(
             let to = further(hit.reach, count);
             let left = to - behind;
             let taken = to - count;
-            keep_part(held, all, behind, left);
+            keep_part(held, behind, left);
             let got = Got {
                 taken,
                 skipped: hit.start,

@@ -10,9 +10,10 @@ use lib.ListN.{length, take}
 use Rattle.rules.specs.Bytes.{part}
 use Rattle.stream_laws.proofs.States.{longest-fits}
 use Rattle.seek.specs.declared.laying.Place.{Place}
-use Rattle.places.specs.Held.{filled, appended, keptPart}
-use Rattle.places.proofs.Appending.{at-front, front-long, zeros-behind, still-133}
-use Rattle.places.proofs.Keeping.{kept-part}
+use Rattle.pens.specs.Pens.{laid as laidAt}
+use Rattle.places.specs.Held.{filled}
+use Rattle.places.proofs.Appending.{at-front, front-long, still-133}
+use Rattle.places.proofs.Keeping.{part-of-front}
 use Rattle.fed_rows.proofs.Few.{FewAt, few-at}
 use borrow.Author.Needs.{needs}
 use Rattle.fed_rows.proofs.feed_few.Statement.{statement}
@@ -36,7 +37,7 @@ module _ (k : tie.After-seek-row) where
   bytes = k .before .before .text .result .now
 
   abbrev laid : List ℕ
-  laid = k .before .before .before .before .before .append .last .0
+  laid = k .before .before .before .before .before .lay .last .0
 
   abbrev place : Place
   place = k .seek-row .result
@@ -47,8 +48,8 @@ module _ (k : tie.After-seek-row) where
   there : start .args .count ≤ length (start .args .held .now)
   there = omega (arith, start .pre .2, start .pre .4)
 
-  laid-is : laid ≡ appended (start .args .count) few (start .args .held .now)
-  laid-is = k .before .before .before .before .before .append .ensures (start .pre .4)
+  laid-is : laid ≡ laidAt (start .args .count) few (start .args .held .now)
+  laid-is = k .before .before .before .before .before .lay .ensures (start .pre .4)
 
   bytes-are : bytes ≡ held ++ few
   bytes-are = k .before .before .text .ensures .content ∙ at-front (start .args .count) few (start .args .held .now) (start .pre .4) (start .pre .2) laid laid-is
@@ -60,17 +61,16 @@ module _ (k : tie.After-seek-row) where
   found = few-at (start .args .family) (start .args .count) (start .args .at) (start .args .skipped) (start .args .held .now) few bytes (start .args .numbers .now) (start .pre .0) (start .pre .1) there bytes-are (start .pre .3) place after (k .seek-row .ensures)
 
   -- what is left of the places is what is kept of the bytes
-  keeps : (l : List ℕ) → (length laid ≡ 133 → l ≡ keptPart all (place .start + place .length) (place .to - (place .start + place .length)) laid)
+  keeps : (l : List ℕ) → (length laid ≡ 133 → l ≡ filled (part (place .start + place .length) (place .to - (place .start + place .length)) laid))
       → l ≡ filled (part (place .start + place .length) (place .to - (place .start + place .length)) bytes)
   keeps l e =
       let from = place .start + place .length in
       e (still-133 (start .args .count) few (start .args .held .now) (start .pre .4) (start .pre .2) laid laid-is)
-      ∙ kept-part laid all from (place .to - from) (zeros-behind (start .args .count) few (start .args .held .now) (start .pre .4) (start .pre .2) laid laid-is)
-      (omega (arith, found .order, found .within, bytes-length))
+      ∙ ap filled (sym (part-of-front laid all from (place .to - from) (omega (arith, found .order, found .within, bytes-length))))
       ∙ ap (λ (b : List ℕ). filled (part from (place .to - from) b)) (sym (k .before .before .text .ensures .content))
 
-append-requires : tie.Need-append-requires
-append-requires c κs = search needs
+lay-requires : tie.Need-lay-requires
+lay-requires c κs = search needs
 
 add-all : tie.Need-add-all
 add-all c = search needs
@@ -125,7 +125,7 @@ pub feed-few-spec : {M : Type 1} → statement M
 feed-few-spec =
     tie.close
     (tie.spec
-    append-requires
+    lay-requires
     add-all
     text-requires
     seek-row-requires

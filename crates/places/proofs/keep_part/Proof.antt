@@ -1,30 +1,30 @@
--- `places::keep_part` meets its contract: where not all of it is kept, the part is laid at the front of zeros.
+-- `places::keep_part` meets its contract: from the front zeros are put behind it, and else it is laid at the front of zeros.
 -- Assumes nothing.
 use Prim.Native.Nat.{ℕ}
 use mathlib.Core.Path.{_≡_, sym, ap, _∙_}
 use mathlib.Core.List.{List}
 use native.Mathlib.Omega.{arith}
 use borrow.Author.Needs.{needs}
-use borrow.Author.Tests.{eq-eqb, ne-eqb}
 use lib.ListN.{drop, length-take, length-drop}
 use Rattle.rules.specs.Bytes.{part}
 use Rattle.pens.specs.Pens.{laid}
-use Rattle.places.specs.Held.{filled, keptPart}
+use Rattle.places.specs.Held.{filled}
 use Rattle.places.proofs.Buffers.{zeros, fills}
 use Rattle.places.proofs.keep_part.Statement.{statement}
 use Rattle.places.proofs.keep_part.Tie as tie
 
--- another number of bytes than there are
-other : (all a n : ℕ) (places x : List ℕ) → (n ≡ all → ⊥) → x ≡ filled (part a n places) → x ≡ keptPart all a n places
-other all a n places x differs e = rw (ne-eqb n all differs) e
+clear-from-requires : tie.Need-clear-from-requires
+clear-from-requires c κs = search needs
 
 returns : tie.Need-returns
-returns c long = rw (eq-eqb _ _ (c .if1 .taken))
+returns c long =
+    let a = c .before .before .before .args in
+    c .clear-from .ensures long ∙ sym (ap (λ (k : ℕ). filled (part k (a .n) (a .places .now))) (c .before .before .if1 .taken))
 
 returns-2 : tie.Need-returns-2
 returns-2 c long =
     let a = c .before .before .before .args in
-    other (a .all) (a .a) (a .n) (a .places .now) _ (c .before .before .if1 .left) (sym (ap (λ (n : ℕ). filled (part (a .a) n (a .places .now))) (c .before .if2 .taken)))
+    sym (ap (λ (n : ℕ). filled (part (a .a) n (a .places .now))) (c .before .if2 .taken))
 
 slice-aggregate-put-bytes : tie.Need-slice-aggregate-put-bytes
 slice-aggregate-put-bytes c = search needs
@@ -39,12 +39,11 @@ returns-3 : tie.Need-returns-3
 returns-3 c long =
     let a = c .before .before .before .before .before .before .before .before .args in
     let bytes = part (a .a) (a .n) (a .places .now) in
-    other (a .all) (a .a) (a .n) (a .places .now) _ (c .before .before .before .before .before .before .before .if1 .left)
-    (c .before .put-bytes .ensures
+    c .before .put-bytes .ensures
     ∙ ap (λ (l : List ℕ). laid 0 l (zeros 133)) (c .before .before .text .ensures .content)
-    ∙ fills bytes (omega (arith, length-take (a .n) (drop (a .a) (a .places .now)), length-drop (a .a) (a .places .now))))
+    ∙ fills bytes (omega (arith, length-take (a .n) (drop (a .a) (a .places .now)), length-drop (a .a) (a .places .now)))
 
 pub keep-part-spec : {M : Type 1} → statement M
 keep-part-spec =
     tie.close
-    (tie.spec returns returns-2 slice-aggregate-put-bytes text-requires put-bytes-requires returns-3)
+    (tie.spec clear-from-requires returns returns-2 slice-aggregate-put-bytes text-requires put-bytes-requires returns-3)

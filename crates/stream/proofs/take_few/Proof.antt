@@ -16,9 +16,10 @@ use Rattle.seek.specs.declared.Hit.{Hit}
 use Rattle.stream.specs.declared.Moved.{Moved}
 use Rattle.stream.specs.declared.pieces.Cut.{Cut}
 use Rattle.stream.specs.declared.pieces.Step.the-variants.{Ready as StepReady, Waiting as StepWaiting}
-use Rattle.places.proofs.Keeping.{kept-part}
-use Rattle.places.specs.Held.{filled, appended}
-use Rattle.places.proofs.Appending.{at-front, front-long, zeros-behind, still-133}
+use Rattle.pens.specs.Pens.{laid as laidAt}
+use Rattle.places.proofs.Keeping.{part-of-front}
+use Rattle.places.specs.Held.{filled}
+use Rattle.places.proofs.Appending.{at-front, front-long, still-133}
 use Rattle.stream.specs.Turns.{callOn, Turn, turned, movedStep, Cuts, Moves}
 use Rattle.stream.proofs.Cutting.{cut-waiting, cut-ready, turns}
 use Rattle.stream.proofs.Onward.{call-same}
@@ -37,10 +38,10 @@ module _ (c : tie.After-text) where
   bytes = c .text .result .now
 
   abbrev laid : List ℕ
-  laid = c .before .before .before .append .last .0
+  laid = c .before .before .before .lay .last .0
 
-  laid-is : laid ≡ appended (c .before .before .before .before .before .before .args .count) few (c .before .before .before .before .before .before .args .held .now)
-  laid-is = c .before .before .before .append .ensures (c .before .before .before .before .before .before .pre .2)
+  laid-is : laid ≡ laidAt (c .before .before .before .before .before .before .args .count) few (c .before .before .before .before .before .before .args .held .now)
+  laid-is = c .before .before .before .lay .ensures (c .before .before .before .before .before .before .pre .2)
 
   size : length held ≡ c .before .before .before .before .before .before .args .count
   size = length-take-le (c .before .before .before .before .before .before .args .count) (c .before .before .before .before .before .before .args .held .now) (omega (arith, c .before .before .before .before .before .before .pre))
@@ -51,17 +52,13 @@ module _ (c : tie.After-text) where
   bytes-length : length bytes ≡ c .before .before .before .before .before .before .args .count + length few
   bytes-length = ap length (c .text .ensures .content) ∙ front-long (c .before .before .before .before .before .before .args .count) few (c .before .before .before .before .before .before .args .held .now) (c .before .before .before .before .before .before .pre .2) (c .before .before .before .before .before .before .pre .1) laid laid-is
 
-  -- with zeros behind them
-  zeros : laid ≡ filled (take (c .before .before .before .before .before .before .args .count + length few) laid)
-  zeros = zeros-behind (c .before .before .before .before .before .before .args .count) few (c .before .before .before .before .before .before .args .held .now) (c .before .before .before .before .before .before .pre .2) (c .before .before .before .before .before .before .pre .1) laid laid-is
-
   places : length laid ≡ 133
   places = still-133 (c .before .before .before .before .before .before .args .count) few (c .before .before .before .before .before .before .args .held .now) (c .before .before .before .before .before .before .pre .2) (c .before .before .before .before .before .before .pre .1) laid laid-is
 
   -- what was cut is the turn of the call, and so what is answered and kept
   moves : (cut : Cut) → Cuts (c .before .before .before .before .before .before .args .family) bytes (c .before .before .before .before .before .before .args .count) 0 0 cut → (m : Moved) (left : List ℕ)
       → m ≡ movedStep (c .before .before .before .before .before .before .args .at) (c .before .before .before .before .before .before .args .skipped) (cut .to - cut .from) (cut .step)
-      → left ≡ filled (part (cut .from) (cut .to - cut .from) (take (c .before .before .before .before .before .before .args .count + length few) (c .before .before .before .append .last .0)))
+      → left ≡ filled (part (cut .from) (cut .to - cut .from) (take (c .before .before .before .before .before .before .args .count + length few) (c .before .before .before .lay .last .0)))
       → Moves (c .before .before .before .before .before .before .args .at) (c .before .before .before .before .before .before .args .skipped) (turned (call (head (c .before .before .before .before .before .before .args .family)) held few)) left m
   moves cut cuts m left says keeps =
       let a = c .before .before .before .before .before .before .args in
@@ -102,8 +99,8 @@ module _ (c : tie.After-hit) where
       })
   hands-out to up = cut-ready (c .before .before .before .before .before .before .before .before .before .args .family) (bytes text-2) (c .before .before .before .before .before .before .before .before .before .args .count) 0 0 (omega (arith, bytes-length text-2)) (c .before .before .before .before .before .before .before .before .before .pre .0) hit to (sym (c .before .before .seek .ensures) ∙ c .hit .given .1) up
 
-append-requires : tie.Need-append-requires
-append-requires c κs = search needs
+lay-requires : tie.Need-lay-requires
+lay-requires c κs = search needs
 
 add-all : tie.Need-add-all
 add-all c = search needs
@@ -163,7 +160,7 @@ returns c =
     let left : count + length (few t) - from w ≡ length (bytes t) - from w = ap (λ (n : ℕ). n - from w) (sym all) in
     moves t _ (waits w) _ _
     (c .answered .ensures ∙ (λ i. movedStep (c .before .before .before .before .before .before .before .before .before .before .before .before .before .args .at) (c .before .before .before .before .before .before .before .before .before .before .before .before .before .args .skipped) (left i) (StepWaiting (taken i) (passed i))))
-    (c .before .keep-part .ensures (places t) ∙ kept-part (t .before .before .before .append .last .0) (count + length (few t)) (from w) (count + length (few t) - from w) (zeros t) (omega (arith, inside w)) ∙ ap (λ (n : ℕ). filled (part (from w) n (take (count + length (few t)) (t .before .before .before .append .last .0)))) left)
+    (c .before .keep-part .ensures (places t) ∙ ap filled (sym (part-of-front (t .before .before .before .lay .last .0) (count + length (few t)) (from w) (count + length (few t) - from w) (omega (arith, inside w)))) ∙ ap (λ (n : ℕ). filled (part (from w) n (take (count + length (few t)) (t .before .before .before .lay .last .0)))) left)
 
 returns-2 : tie.Need-returns-2
 returns-2 c =
@@ -177,13 +174,13 @@ returns-2 c =
     moves t _ cuts _ _
     (c .answered2 .ensures
     ∙ (λ i. movedStep (a .at) (a .skipped) (to - (x .start + x .length)) (StepReady (record { taken = from-none (to - a .count) i; skipped = from-none (x .start) i; length = x .length; frame = x .frame }))))
-    (c .before .keep-part2 .ensures (places t) ∙ kept-part (t .before .before .before .append .last .0) (a .count + length (few t)) (x .start + x .length) (to - (x .start + x .length)) (zeros t) (omega (arith, cuts .order, cuts .within, bytes-length t)))
+    (c .before .keep-part2 .ensures (places t) ∙ ap filled (sym (part-of-front (t .before .before .before .lay .last .0) (a .count + length (few t)) (x .start + x .length) (to - (x .start + x .length)) (omega (arith, cuts .order, cuts .within, bytes-length t)))))
 
 pub take-few-spec : {M : Type 1} → statement M
 take-few-spec =
     tie.close
     (tie.spec
-    append-requires
+    lay-requires
     add-all
     text-requires
     seek-requires
