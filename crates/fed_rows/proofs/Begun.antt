@@ -1,24 +1,20 @@
 -- A report or a sentence that has begun in the held bytes and goes on in those offered: the first start stays undecided.
 -- Assumes nothing.
 use Prim.Native.Nat.{ℕ, _+_, _-_, _≤_, _<_}
-use Prim.Native.Char.{code}
 use mathlib.Core.Path.{_≡_, refl, sym, ap, _∙_}
 use mathlib.Core.Bool.{true}
 use mathlib.Core.List.{List, _++_}
 use native.Mathlib.Omega.{arith}
 use lib.ListN.{length, take, drop, getD, length-append, length-drop, List·getD-append}
 use lib.Seq.{length-take-le, getD-take, drop-append-le}
-use Rattle.rules.specs.Bytes.{oneOf, part, every}
+use Rattle.rules.specs.Bytes.{part, every}
 use Rattle.rules.specs.Sentences.{isPayloadByte}
-use Rattle.rules.specs.Answers.{isFamily}
 use Rattle.stream_rules.specs.Heads.{wait, head}
 use Rattle.laws.proofs.Bytes.{every-append}
 use Rattle.head_laws.proofs.Runs.{run, run-all}
 use Rattle.head_laws.proofs.SentenceStarts.{payload-open}
 use Rattle.starts.proofs.Beginning.{begun, still-begun}
 use Rattle.seek_laws.proofs.Jump.{drop-take}
-use Rattle.seek.specs.Sought.{soughtIn}
-use Rattle.seek.specs.declared.Sought.the-variants.{Waiting}
 use Rattle.seek.proofs.Stopping.{begins, stops-waiting}
 use Rattle.seek.proofs.Searching.{waiting, begun-waits}
 use Rattle.fed_rows.specs.Going.{ReportGoesOn, SentenceGoesOn, GoesOn}

@@ -1,5 +1,5 @@
 -- What a search gives that lays the row of what it finds, in the words of the rules.
-use Prim.Native.Nat.{ℕ, max, _+_, _-_, _≤_}
+use Prim.Native.Nat.{ℕ, max, _+_, _-_}
 use mathlib.Core.Path.{_≡_}
 use mathlib.Core.Bool.{true, false, _&&_, cond}
 use mathlib.Core.List.{List}

@@ -104,8 +104,8 @@ fn walk(
     lay_waiting(s.len(), count, stop.at, numbers)
 }
 
-// The first start that is not bad, and the row of what stands there. (A report that has begun and is not whole is
-// answered at once: most calls on a stream of reports end so.)
+// The first start that is not bad, and the row of what stands there. (A report that begins at the first
+// byte and is not whole is answered at once, without a walk.)
 pub fn seek_row(
     family: u8,
     s: &[u8],

@@ -1,14 +1,14 @@
 -- What it says that a report begins: its marks and its count stand there, and whatever comes behind them, it begins.
 -- Assumes nothing.
 use Prim.Native.Nat.{ℕ, _≤_}
-use mathlib.Core.Path.{_≡_, ap, _∙_}
+use mathlib.Core.Path.{_≡_, _∙_}
 use mathlib.Core.Bool.{true}
 use mathlib.Core.List.{List, _++_}
 use native.Mathlib.Omega.{arith}
-use borrow.Author.Tests.{leb-true, le-leb, eqb-true, eq-eqb}
+use borrow.Author.Tests.{leb-true, eqb-true}
 use lib.Dec.{eqb, leb}
 use lib.ListN.{length, getD, length-append, List·getD-append}
-use Rattle.laws.proofs.Bytes.{both, both-pass}
+use Rattle.laws.proofs.Bytes.{both}
 use Rattle.starts.specs.Begins.{beginsReport}
 
 pub record Begun (bs : List ℕ) : Type 0 where

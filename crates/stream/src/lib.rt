@@ -9,7 +9,6 @@ use pieces::Got;
 use pieces::Next;
 use pieces::Step;
 use pieces::advance;
-use pieces::keep;
 use places::keep_part;
 use places::lay;
 use places::size;
@@ -146,8 +145,7 @@ fn drain(family: u8, held: &mut [u8; 133], count: usize, at: u32, skipped: u32) 
         First::At(start, length, frame) => {
             let behind = start + length;
             let left = bytes.len() - behind;
-            let kept = keep(bytes, behind, left);
-            *held = kept;
+            keep_part(held, behind, left);
             let got = Got {
                 taken: 0,
                 skipped: start,
@@ -262,8 +260,8 @@ pub fn close(r: Reader) -> Turned
             outcome: Outcome::Refused(6),
         };
     }
-    let places = r.held;
-    let held = keep(&places, 0, count);
+    let mut held = r.held;
+    keep_part(&mut held, 0, count);
     let reader = Reader {
         family: r.family,
         closed: 1,

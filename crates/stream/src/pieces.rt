@@ -8,12 +8,10 @@ use rules::Frame;
 use seek::Sought;
 use seek::seek;
 ghost use mathlib.Core.Path.{_≡_};
-ghost use Prim.Native.Nat.{_+_, _-_, _^_, _≤_, _<_};
+ghost use Prim.Native.Nat.{_+_, _^_, _≤_, _<_};
 ghost use lib.ListN.{length, take};
-ghost use Rattle.rules.specs.Bytes.{part};
 ghost use Rattle.stream_rules.specs.Heads.{longest, head};
 ghost use Rattle.stream_rules.specs.Rule.{call};
-ghost use Rattle.places.specs.Held.{filled};
 ghost use Rattle.stream.specs.Turns.{callOn, turnWith, turnedFrom, turned, Cuts};
 
 // A frame that is ready: the bytes taken, the bytes skipped, its length, and what it says.
@@ -41,16 +39,6 @@ pub struct Cut {
 pub struct Next {
     pub step: Step,
     pub count: usize,
-}
-
-// Some bytes of a slice in the held places, with zeros behind them.
-pub(crate) fn keep(s: &[u8], a: usize, n: usize) -> [u8; 133]
-    requires { ⌜ (a + n ≤ length (now s)) × (n ≤ 133) ⌝ }
-    ensures { λ r. ⌜ r ≡ filled (part a n (now (s .entry))) ⌝ }
-{
-    let mut held = [0u8; 133];
-    put_bytes(&mut held, 0, text(s, a, n));
-    held
 }
 
 // What a call does with bytes whose first ones it held.

@@ -1,15 +1,14 @@
 -- `seek::no_mark` meets its contract. The loop's invariant: where none is found so far, the bytes before i are no marks. The measure is
 -- what is left of 16.
 -- Assumes nothing.
-use Prim.Native.Nat.{ℕ, _+_, _-_, _≤_, _<_}
+use Prim.Native.Nat.{ℕ, _+_, _-_, _≤_}
 use mathlib.Core.Path.{_≡_, ap, _∙_}
-use mathlib.Core.Bool.{Bool, true}
+use mathlib.Core.Bool.{true}
 use mathlib.Core.List.{List}
 use native.Mathlib.Decide.{decLt}
 use native.Mathlib.Omega.{arith}
-use borrow.Author.Needs.{needs}
 use borrow.Author.Tests.{not-true, eqb-false}
-use lib.ListN.{length, getD}
+use lib.ListN.{getD}
 use Rattle.laws.proofs.Bytes.{both}
 use Rattle.seek.specs.Sought.{Unmarked}
 use Rattle.seek.proofs.no_mark.Statement.{statement}

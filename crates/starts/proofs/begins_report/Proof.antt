@@ -1,6 +1,5 @@
 -- `starts::begins_report` meets its contract: its tests are those of the rule.
 -- Assumes nothing.
-use native.Mathlib.Omega.{arith}
 use borrow.Author.Needs.{needs}
 use borrow.Author.Tests.{le-leb, lt-leb}
 use lib.ListN.{length}

@@ -1,6 +1,6 @@
 -- `stream::close` meets its contract: its two tests are the refusals, in their order.
 -- Assumes nothing.
-use Prim.Native.Nat.{_-_, _≤_}
+use Prim.Native.Nat.{_≤_}
 use mathlib.Core.Path.{_≡_, sym, _∙_}
 use mathlib.Core.Bool.{true}
 use native.Mathlib.Omega.{arith}
@@ -17,6 +17,10 @@ use Rattle.stream_laws.proofs.States.{longest-fits, shut-1, shut-6, shut-call}
 use Rattle.stream_laws.proofs.Saying.{shuts}
 use Rattle.stream.proofs.close.Statement.{statement}
 use Rattle.stream.proofs.close.Tie as tie
+
+-- the places of a reader
+long : (c : tie.Start) → length (c .args .r .held) ≡ 133
+long c = search needs
 
 is-family-requires : tie.Need-is-family-requires
 is-family-requires c κs = search needs
@@ -40,28 +44,21 @@ longest-frame-requires c κs = search needs
 returns-2 : tie.Need-returns-2
 returns-2 c = shuts (sym (shut-6 (c .before .before .before .before .before .args .r) (a-family (c .before .before .before)) (omega (arith, c .if2 .taken, c .before .longest-frame .ensures, top-above (head (c .before .before .before .before .before .args .r .family)) _ (facts (c .before .before .before .before .before .args .r .family))))))
 
-slice-aggregate-keep : tie.Need-slice-aggregate-keep
-slice-aggregate-keep c = search needs
-
-keep-requires : tie.Need-keep-requires
-keep-requires c κs =
-    let start = c .before .before .before .before .before .before .before in
-    let r = start .args .r in
-    let places : length (r .held) ≡ 133 = sym (slice-aggregate-keep c) in
-    (omega (arith, room (c .before .before), longest-fits (r .family), places), omega (arith, room (c .before .before), longest-fits (r .family)))
+keep-part-requires : tie.Need-keep-part-requires
+keep-part-requires c κs = search needs
 
 returns-3 : tie.Need-returns-3
 returns-3 c =
     let start = c .before .before .before .before .before .before .before .before in
     let r = start .args .r in
-    let places : length (r .held) ≡ 133 = sym (slice-aggregate-keep (c .before)) in
+    let places = long start in
     let size : length (heldOf r) ≡ r .count = length-take (r .count) (r .held) ∙ omega (arith, room (c .before .before .before), longest-fits (r .family), places) in
     shuts ((λ i. record {
       reader = record {
         family = r .family;
         closed = 1;
         count = sym size i;
-        held = c .keep .ensures i;
+        held = c .keep-part .ensures places i;
         at = r .at;
         skipped = r .skipped;
       };
@@ -78,6 +75,5 @@ close-spec =
     cast-count
     longest-frame-requires
     returns-2
-    slice-aggregate-keep
-    keep-requires
+    keep-part-requires
     returns-3)

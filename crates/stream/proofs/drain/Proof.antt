@@ -1,17 +1,20 @@
 -- `stream::drain` meets its contract: the first good frame of the held bytes is what a look at close finds.
 -- Assumes nothing.
-use Prim.Native.Nat.{ℕ, _≤_}
+use Prim.Native.Nat.{ℕ, _+_, _-_, _≤_}
 use mathlib.Core.Path.{_≡_, sym, ap, _∙_}
 use mathlib.Core.List.{List, []}
 use native.Mathlib.Omega.{arith}
 use borrow.Author.Needs.{needs}
 use lib.ListN.{length, length-take}
+use Rattle.rules.specs.Bytes.{part}
 use Rattle.stream_rules.specs.Heads.{head, atClose}
 use Rattle.stream_rules.specs.Rule.{waiting, look}
 use Rattle.stream_rules.specs.Streams.{closedCall}
 use Rattle.stream_laws.proofs.States.{longest-fits}
 use Rattle.stream.specs.Places.{readerAt, fedAt}
+use Rattle.places.specs.Held.{filled}
 use Rattle.places.proofs.Buffers.{zeros}
+use Rattle.places.proofs.Keeping.{part-of-front}
 use Rattle.stream.proofs.Closing.{Drained, drained, drained-answer, emptied}
 use Rattle.stream.proofs.drain.Statement.{statement}
 use Rattle.stream.proofs.drain.Tie as tie
@@ -45,16 +48,13 @@ add-behind c = omega (arith, found (c .before) .there, few (c .before .before .b
 sub-left : tie.Need-sub-left
 sub-left c = found (c .before) .there
 
-keep-requires : tie.Need-keep-requires
-keep-requires c κs =
-    let there = found (c .before) .there in
-    let room = few (c .before .before .before .before) in
-    (omega (arith, there), omega (arith, room))
+keep-part-requires : tie.Need-keep-part-requires
+keep-part-requires c κs = search needs
 
 answered-requires : tie.Need-answered-requires
 answered-requires c κs =
-    let there = found (c .before .before) .there in
-    let room = few (c .before .before .before .before .before) in
+    let there = found (c .before .before .before) .there in
+    let room = few (c .before .before .before .before .before .before) in
     (omega (arith, room), omega (arith, there, room))
 
 enum-told : tie.Need-enum-told
@@ -63,13 +63,32 @@ enum-told c = search needs
 done-requires : tie.Need-done-requires
 done-requires c κs = search needs
 
+-- what is left of the places is what is kept of the bytes
+module _ (c : tie.After-keep-part) where
+  abbrev text : tie.After-text
+  text = c .before .before .before .before .before .before
+
+  abbrev bytes : List ℕ
+  bytes = text .text .result .now
+
+  abbrev behind : ℕ
+  behind = c .before .before .before .start .given .0 .0 + c .before .before .before .start .given .0 .1 .0
+
+  keeps : c .keep-part .last .0 ≡ filled (part behind (length bytes - behind) bytes)
+  keeps =
+      let start = text .before .before .before in
+      c .keep-part .ensures (start .pre .1)
+      ∙ ap filled
+      (sym (part-of-front (start .args .held .now) (start .args .count) behind (length bytes - behind) (omega (arith, found (c .before .before .before) .there, size text)))
+      ∙ ap (part behind (length bytes - behind)) (sym (text .text .ensures .content)))
+
 returns : tie.Need-returns
 returns c = λ closed.
-    let a = c .before .before .before .before .before .before .before .before .before .args in
+    let a = c .before .before .before .before .before .before .before .before .before .before .args in
     let r = readerAt (a .family) closed (a .count) (a .held .now) (a .at) (a .skipped) in
-    ap (fedAt (a .family) closed (c .before .keep .result)) (c .answered .ensures)
-    ∙ drained-answer r _ _ _ _ (found (c .before .before .before)) _ (c .before .keep .ensures)
-    ∙ ap (λ (l : List ℕ). closedCall r (look (atClose (head (a .family))) l)) (c .before .before .before .before .before .before .text .ensures .content)
+    ap (fedAt (a .family) closed (c .before .keep-part .last .0)) (c .answered .ensures)
+    ∙ drained-answer r _ _ _ _ (found (c .before .before .before .before)) _ (keeps (c .before))
+    ∙ ap (λ (l : List ℕ). closedCall r (look (atClose (head (a .family))) l)) (c .before .before .before .before .before .before .before .text .ensures .content)
 
 returns-2 : tie.Need-returns-2
 returns-2 c = λ closed.
@@ -89,7 +108,7 @@ drain-spec =
     enum-known-start
     add-behind
     sub-left
-    keep-requires
+    keep-part-requires
     answered-requires
     enum-told
     done-requires

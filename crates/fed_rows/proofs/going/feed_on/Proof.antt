@@ -1,13 +1,12 @@
 -- `fed_rows::going::feed_on` meets its contract: all bytes are kept, and the row is that of more wanted.
 -- Assumes nothing.
-use Prim.Native.Nat.{ℕ, _+_, _≤_}
-use mathlib.Core.Path.{_≡_, refl, sym, ap, _∙_}
-use mathlib.Core.List.{List, _++_}
+use Prim.Native.Nat.{_+_}
+use mathlib.Core.Path.{_≡_, refl, ap, _∙_}
+use mathlib.Core.List.{_++_}
 use native.Mathlib.Omega.{arith}
 use borrow.Author.Needs.{needs}
 use borrow.Author.Tests.{eq-eqb, le-leb}
 use lib.ListN.{length, take}
-use Rattle.stream_laws.proofs.States.{longest-fits}
 use Rattle.places.specs.Held.{filled}
 use Rattle.places.proofs.Appending.{at-front, still-133}
 use Rattle.fed_rows.proofs.Few.{goes-on}
