@@ -212,8 +212,10 @@ static int agree(unsigned family, unsigned i)
 static double worst, sum_proved, sum_plain;
 /* Of the stream's measures: at most that; more, and so is the plain stream's; more, and that is not. */
 static unsigned within, beyond, over;
+/* And how many are at most that many times the time of the plain lister, which is what the proved one may take. */
+static unsigned of_plain;
 
-static void print_stream(double proved)
+static void print_stream(double proved, double plain_lister)
 {
     unsigned which;
 
@@ -228,6 +230,8 @@ static void print_stream(double proved)
             beyond++;
         else
             over++;
+        if (time_of(which) <= ASKED * plain_lister)
+            of_plain++;
     }
     printf("\n");
 }
@@ -243,7 +247,7 @@ static void print_line(unsigned family, unsigned kind)
     printf("%6u %-13s %8.0f %8.0f %6.2f   %6.2f %6.2f  ",
            family, kind_name(kind), bytes / proved, bytes / plain, proved / plain,
            proved / time_of(PROVED_SHORT), plain / time_of(PLAIN_SHORT));
-    print_stream(proved);
+    print_stream(proved, plain);
 }
 
 static int one_kind(unsigned family, unsigned kind, unsigned rounds)
@@ -278,5 +282,6 @@ int main(int argc, char **argv)
            sum_proved / sum_plain, worst);
     printf("stream within %.0f times the lister: %u; more, and the plain stream too: %u; more, and that not: %u\n",
            ASKED, within, beyond, over);
+    printf("stream within %.0f times the plain lister: %u of %u\n", ASKED, of_plain, within + beyond + over);
     return 0;
 }
