@@ -207,7 +207,7 @@ static int agree(unsigned family, unsigned i)
 
 /* ---- The table ------------------------------------------------------------------------------ */
 
-#define ASKED 4.0 /* the stream is to take at most so many times the lister's time */
+#define AIM 4.0 /* the stream is to take at most so many times the lister's time */
 
 static double worst, sum_proved, sum_plain;
 /* Of the stream's measures: at most that; more, and so is the plain stream's; more, and that is not. */
@@ -224,13 +224,13 @@ static void print_stream(double proved, double plain_lister)
         double least = time_of(which - STREAM_1 + LEAST_1) / proved;
 
         printf(" %5.1f (%4.1f, %4.1f)", stream, plain, least);
-        if (stream <= ASKED)
+        if (stream <= AIM)
             within++;
-        else if (plain > ASKED)
+        else if (plain > AIM)
             beyond++;
         else
             over++;
-        if (time_of(which) <= ASKED * plain_lister)
+        if (time_of(which) <= AIM * plain_lister)
             of_plain++;
     }
     printf("\n");
@@ -281,7 +281,7 @@ int main(int argc, char **argv)
     printf("all find the same starts; time proved / plain: %.2f over all, %.2f at worst\n",
            sum_proved / sum_plain, worst);
     printf("stream within %.0f times the lister: %u; more, and the plain stream too: %u; more, and that not: %u\n",
-           ASKED, within, beyond, over);
-    printf("stream within %.0f times the plain lister: %u of %u\n", ASKED, of_plain, within + beyond + over);
+           AIM, within, beyond, over);
+    printf("stream within %.0f times the plain lister: %u of %u\n", AIM, of_plain, within + beyond + over);
     return 0;
 }

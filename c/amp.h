@@ -37,7 +37,8 @@ enum {
 
 /* A row of numbers: what was read, or what a call on a stream answered. The values of a frame stand
  * from AMP_VALUES on; what is behind them is unchanged. A row needs AMP_VALUES places, and one more for
- * each value. */
+ * each value. With AMP_MORE and AMP_DONE there is no frame, and its start, skipped bytes and length are
+ * 0: what a closed reader dropped at the end is counted in the reader's own skipped. */
 enum {
     AMP_KIND,    /* one of the kinds below */
     AMP_CODE,    /* the code of an acknowledgement or a command, the number of a sentence, else 0 */

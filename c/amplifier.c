@@ -4,8 +4,8 @@
  *
  * FAMILY 1 is an SPE amplifier that is switched to operate, tuned, driven and overheated; 2 is an Alpha.
  * With noise, bytes that are no frame stand between the frames: lone marks, a frame that breaks off, a
- * length that a click has spoiled. With over, the first report has more watts than its field carries:
- * the refusal is said on standard error, and the status is 1. */
+ * length that a click has spoiled. With over, FAMILY is 1 and the first report has more watts than its
+ * field carries: the refusal is said on standard error, and the status is 1. Other words are status 2. */
 #include "amp.h"
 #include "sys.h"
 
@@ -131,12 +131,28 @@ static int play_over(void)
     return send(&step);
 }
 
+/* Whether there is a word at this place, and it is that one. */
+static int is_word(int argc, char **argv, int at, const char *word)
+{
+    return at < argc && strcmp(argv[at], word) == 0;
+}
+
+static int usage(void)
+{
+    static const char line[] = "usage: amplifier 1 | 2 [noise], or amplifier 1 over\n";
+
+    return write(2, line, sizeof line - 1) < 0 ? 1 : 2;
+}
+
 int main(int argc, char **argv)
 {
-    int is_alpha = argc > 1 && strcmp(argv[1], "2") == 0;
-    size_t kinds = argc > 2 && strcmp(argv[2], "noise") == 0 ? 5 : 0;
+    int is_spe = is_word(argc, argv, 1, "1"), is_alpha = is_word(argc, argv, 1, "2");
+    int noisy = is_word(argc, argv, 2, "noise"), over = is_word(argc, argv, 2, "over");
+    size_t kinds = noisy ? 5 : 0;
 
-    if (argc > 2 && strcmp(argv[2], "over") == 0)
+    if (argc > 3 || !(is_spe || is_alpha) || (argc == 3 && !noisy && !(over && is_spe)))
+        return usage();
+    if (over)
         return play_over() ? 0 : 1;
     if (is_alpha)
         return play_alpha(kinds) ? 0 : 1;

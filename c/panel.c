@@ -5,7 +5,8 @@
  *
  * PIECE is the most bytes that are read at once, from 1 to 64; 64 if it is not given. What is said does
  * not depend on it. At the end of the input the reader is closed and drained, and a last line counts
- * what was heard. */
+ * what was heard. Where the line cannot be read, or what was heard cannot be said, it ends with status 1:
+ * a silent panel must not look like a quiet amplifier. */
 #include "amp.h"
 #include "sys.h"
 
@@ -14,6 +15,8 @@
 /* What the panel keeps from call to call: one reader, and counts for the last line. */
 static amp_reader reader;
 static unsigned long reports, others;
+/* Set where the line could not be read, or a line of words could not be written. */
+static int broken;
 
 struct word {
     int64_t letter;
@@ -46,8 +49,10 @@ static void say(const char *line, int length)
     while (length > 0) {
         long n = write(1, line, (size_t)length);
 
-        if (n <= 0)
+        if (n <= 0) {
+            broken = 1;
             return;
+        }
         line += n;
         length -= (int)n;
     }
@@ -110,10 +115,12 @@ static uint32_t listen(uint32_t family, size_t piece)
 {
     uint8_t bytes[PIECE];
     uint32_t number = amp_fresh(&reader, family);
-    long n;
+    long n = 0;
 
-    while (number == 0 && (n = read(0, bytes, piece)) > 0)
+    while (number == 0 && !broken && (n = read(0, bytes, piece)) > 0)
         number = offer(bytes, (size_t)n);
+    if (n < 0)
+        broken = 1;
     if (number == 0)
         number = amp_close(&reader);
     if (number == 0)
@@ -121,17 +128,29 @@ static uint32_t listen(uint32_t family, size_t piece)
     return number;
 }
 
+/* The number that a word is; 0, which is no family and no size, where it is none or has more than 32 bits. */
+static uint32_t number_in(const char *word)
+{
+    unsigned long long number = strtoull(word, NULL, 10);
+
+    if (*word == 0 || strspn(word, "0123456789") != strlen(word) || number > UINT32_MAX)
+        return 0;
+    return (uint32_t)number;
+}
+
 int main(int argc, char **argv)
 {
-    uint32_t family = argc > 1 ? (uint32_t)strtoull(argv[1], NULL, 10) : 1;
-    size_t piece = argc > 2 ? (size_t)strtoull(argv[2], NULL, 10) : PIECE;
+    static const char complaint[] = "the panel cannot read its line, or cannot write\n";
+    uint32_t family = argc > 1 ? number_in(argv[1]) : 1;
+    size_t piece = argc > 2 ? number_in(argv[2]) : PIECE;
     char line[80];
     uint32_t number = listen(family, piece >= 1 && piece <= PIECE ? piece : PIECE);
 
-    if (number != 0) {
+    if (number != 0)
         say_refusal(number);
+    else
+        say(line, snprintf(line, sizeof line, "%lu reports, %lu other frames\n", reports, others));
+    if (broken && write(2, complaint, sizeof complaint - 1) < 0)
         return 1;
-    }
-    say(line, snprintf(line, sizeof line, "%lu reports, %lu other frames\n", reports, others));
-    return 0;
+    return number != 0 || broken;
 }

@@ -9,24 +9,24 @@ use native.Mathlib.Omega.{arith}
 use lib.ListN.{length, take, drop, getD, length-drop, take-append-drop}
 use lib.Seq.{length-take-le, take-all, drop-drop, getD-at}
 use borrow.Author.Tests.{lt-leb}
-use Rattle.rules.specs.Bytes.{ascii, part, between, same, every}
+use Rattle.rules.specs.Bytes.{part, between, same, every}
 use Rattle.rules.specs.Numbers.{isDigit}
-use Rattle.rules.specs.Sentences.{isPayload, isPayloadByte, isSentence, payloadOf, checkOf, nothingOrComma, gives, numberOf, textsOf}
+use Rattle.rules.specs.Sentences.{isPayload, isPayloadByte, isNamed, isSentence, payloadOf, checkOf, gives, numberOf, textsOf}
 use Rattle.rules.specs.Answers.{readTexts, readFamily2, notGood}
 use Rattle.rules.specs.declared.Reading.the-variants.{Refused}
 use Rattle.laws.proofs.Bytes.{both, tests, answer, same-eq, eq-same, between-bounds, bounds-between}
 use Rattle.laws.proofs.Sentences.{sentence-payload}
 use Rattle.leaves.proofs.Steps.{at as from-place}
-use Rattle.alpha.specs.Payloads.{isNamed, isChecked}
+use Rattle.alpha.specs.Payloads.{isChecked}
 
 pub no-sentence : (bs : List ℕ) → isSentence bs ≡ false → Refused notGood ≡ readFamily2 bs
 unfolding readFamily2
 no-sentence bs e = rw e
 
 -- the bytes are tested last
-reordered : (e a d n g : Bool) → e && a && d && n && g ≡ a && d && n && (e && g)
-reordered true a d n g = refl
-reordered false a d n g = sym (and-false (a && d && n))
+reordered : (e n g : Bool) → e && n && g ≡ n && (e && g)
+reordered true n g = refl
+reordered false n g = sym (and-false n)
 
 module _ (bs : List ℕ) where
   payload-length : length (payloadOf bs) ≡ length bs - 6
@@ -84,7 +84,7 @@ module _ (bs : List ℕ) where
     by-tests high d s =
         let p = payloadOf bs in
         rw (the-payload, the-check, eq-same bs _ (framed d s), bounds-between 5 128 (length (payloadOf bs)) (omega (arith, payload-length)) (omega (arith, payload-length)))
-        (reordered (every isPayloadByte p) (same (take 3 p) (ascii "APA")) (every isDigit (part 3 2 p)) (nothingOrComma (drop 5 p)) (gives (checkOf bs) p))
+        (reordered (every isPayloadByte p) (isNamed p) (gives (checkOf bs) p))
 
   -- a sentence has a payload, and that a number
   module _ (good : isSentence bs ≡ true) where

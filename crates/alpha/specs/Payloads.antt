@@ -1,18 +1,12 @@
--- The tests of a payload, in three parts: how it begins, what takes a pass over all of it, and its fields.
+-- The tests of a payload beside how it begins: what takes a pass over all of it, and its fields.
 use Prim.Native.Nat.{ℕ}
 use Prim.Native.Char.{code}
 use mathlib.Core.Bool.{Bool, _&&_, _||_}
 use mathlib.Core.List.{List}
 use lib.Dec.{leb}
-use lib.ListN.{take, drop}
-use Rattle.rules.specs.Bytes.{ascii, same, part, every}
-use Rattle.rules.specs.Numbers.{isDigit}
-use Rattle.rules.specs.Sentences.{isPayloadByte, nothingOrComma, gives, numberOf, textsOf}
+use Rattle.rules.specs.Bytes.{every}
+use Rattle.rules.specs.Sentences.{isPayloadByte, gives, numberOf, textsOf}
 use Rattle.rules.specs.Answers.{isGood, readTexts}
-
--- `APA`, two digits, and then nothing or a comma
-abbrev pub isNamed : List ℕ → Bool
-isNamed p = same (take 3 p) (ascii "APA") && every isDigit (part 3 2 p) && nothingOrComma (drop 5 p)
 
 -- each byte may stand in a payload, and the check digits give its sums
 abbrev pub isChecked : List ℕ → List ℕ → Bool

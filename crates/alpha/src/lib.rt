@@ -12,9 +12,9 @@ ghost use Prim.Native.Nat.{_≤_};
 ghost use lib.ListN.{length};
 ghost use Rattle.rules.specs.Bytes.{part, every};
 ghost use Rattle.rules.specs.Numbers.{isDigit};
-ghost use Rattle.rules.specs.Sentences.{isSentence, numberOf, textsOf};
+ghost use Rattle.rules.specs.Sentences.{isNamed, isSentence, numberOf, textsOf};
 ghost use Rattle.rules.specs.Answers.{Reads, isGood, readTexts, readFamily2};
-ghost use Rattle.alpha.specs.Payloads.{isNamed, isChecked};
+ghost use Rattle.alpha.specs.Payloads.{isChecked};
 
 // The record of a good sentence, its number where it has none, or the refusal 8.
 pub fn read_sentence(s: &[u8]) -> Reading

@@ -6,6 +6,7 @@ use lib.ListN.{take, replicate}
 use Rattle.rules.specs.Bytes.{ascii, total}
 use Rattle.rules.specs.Codes.{codes, ack}
 use Rattle.rules.specs.Answers.{readOne, notGood}
+use Rattle.rules.specs.declared.Sentence05.{Sentence05}
 use Rattle.rules.specs.declared.Frame.the-variants.{Ack, Status, Command, Apa05}
 use Rattle.rules.specs.declared.Reading.the-variants.{Good, Refused}
 use Rattle.stream_rules.specs.Rule.{Found}
@@ -46,6 +47,22 @@ report5 a b = 0xAA ∷ 0xAA ∷ 0xAA ∷ 0x43 ∷ data5 ++ a ∷ b ∷ 0x0D ∷ 
 
 abbrev pub sentence7 : List ℕ
 sentence7 = ascii "$APA05,11,18,1B,34,00,2A,01*A844"
+
+-- what it says
+abbrev pub record7 : Sentence05
+record7 = record {
+  band = 1;
+  segment = 1;
+  memory = 1;
+  antenna = 8;
+  meter = 1;
+  control = 11;
+  options = 3;
+  state = 4;
+  wtime = 0;
+  tcmd = 42;
+  lcmd = 1;
+}
 
 abbrev pub sentence8 : List ℕ
 sentence8 = ascii "$APA05,11,18,1B,34,00,2A,01*a844"
@@ -119,20 +136,7 @@ pub record BenchSheet : Type 0 where
   -- 6. The same with 0D 6A is not good.
   pub case6 : readOne 1 (report5 0x0D 0x6A) ≡ Refused notGood
   -- 7. Nibbles 1 1, 1 8, 1 11, 3 4; then 0, 42, 1.
-  pub case7 : readOne 2 sentence7
-      ≡ Good (Apa05 (record {
-        band = 1;
-        segment = 1;
-        memory = 1;
-        antenna = 8;
-        meter = 1;
-        control = 11;
-        options = 3;
-        state = 4;
-        wtime = 0;
-        tcmd = 42;
-        lcmd = 1;
-      }))
+  pub case7 : readOne 2 sentence7 ≡ Good (Apa05 record7)
   -- 8. The same with a lowercase digit is not good.
   pub case8 : readOne 2 sentence8 ≡ Refused notGood
   -- 9. Start 5, skipped 5.
@@ -141,19 +145,7 @@ pub record BenchSheet : Type 0 where
         start = 5;
         skipped = 5;
         size = 32;
-        frame = Apa05 (record {
-          band = 1;
-          segment = 1;
-          memory = 1;
-          antenna = 8;
-          meter = 1;
-          control = 11;
-          options = 3;
-          state = 4;
-          wtime = 0;
-          tcmd = 42;
-          lcmd = 1;
-        });
+        frame = Apa05 record7;
       } ∷ []
   -- 10. Code 90 is not acknowledged, and is a command.
   pub case10 : readOne 1 (0xAA ∷ 0xAA ∷ 0xAA ∷ 0x01 ∷ 0x90 ∷ 0x90 ∷ []) ≡ Refused notGood

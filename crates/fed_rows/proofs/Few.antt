@@ -16,7 +16,7 @@ use Rattle.rules.specs.Bytes.{part}
 use Rattle.rules.specs.Answers.{isFamily}
 use Rattle.stream_rules.specs.Heads.{longest, head}
 use Rattle.stream_rules.specs.Rule.{call}
-use Rattle.stream_rules.specs.Streams.{wrap, fed}
+use Rattle.stream_rules.specs.Streams.{wrap, fed, filled}
 use Rattle.stream_rules.specs.declared.Reader.{Reader}
 use Rattle.head_laws.proofs.Heads.{good-head}
 use Rattle.stream_laws.proofs.Looks.{look-ready}
@@ -27,14 +27,13 @@ use Rattle.seek.specs.declared.Hit.{Hit}
 use Rattle.seek.specs.declared.Sought.{Sought}
 use Rattle.seek.specs.declared.Sought.the-variants.{Ready, Waiting}
 use Rattle.seek.specs.declared.laying.Place.{Place}
-use Rattle.places.specs.Held.{filled}
 use Rattle.rows.specs.Rows.{rowWithout, front}
-use Rattle.stream.specs.Places.{readerAt, fedAt}
-use Rattle.stream.specs.Turns.{turned, callOn, movedStep, Cuts}
-use Rattle.stream.specs.declared.pieces.Cut.{Cut}
-use Rattle.stream.proofs.Cutting.{finds, cut-waiting, cut-ready, turns}
-use Rattle.stream.proofs.Counts.{fedBy, by-call}
-use Rattle.stream.proofs.Onward.{call-same}
+use Rattle.feeding.specs.Places.{readerAt, fedAt}
+use Rattle.feeding.specs.Turns.{turned, callOn, movedStep, Cuts}
+use Rattle.feeding.specs.declared.pieces.Cut.{Cut}
+use Rattle.feeding.proofs.Cutting.{finds, cut-waiting, cut-ready, turns}
+use Rattle.feeding.proofs.Counts.{fedBy, by-call}
+use Rattle.feeding.proofs.Onward.{call-same}
 use Rattle.fed_rows.specs.FedRows.{FeedsRow}
 use Rattle.fed_rows.proofs.Laid.{with-frame, wanting}
 

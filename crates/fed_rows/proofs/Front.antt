@@ -15,17 +15,16 @@ use Rattle.rules.specs.declared.Frame.{Frame}
 use Rattle.rules.specs.declared.Reading.the-variants.{Good}
 use Rattle.stream_rules.specs.Heads.{good, head}
 use Rattle.stream_rules.specs.Rule.{ready, look, gives, call}
-use Rattle.stream_rules.specs.Settled.{reach}
-use Rattle.stream_rules.specs.Streams.{wrap, openCall}
+use Rattle.head_laws.specs.Settled.{reach}
+use Rattle.stream_rules.specs.Streams.{wrap, openCall, filled}
 use Rattle.stream_rules.specs.declared.Reader.{Reader}
 use Rattle.head_laws.proofs.Heads.{complete, good-head}
 use Rattle.stream_laws.proofs.States.{open-call}
 use Rattle.seek_laws.proofs.Families.{facts}
 use Rattle.seek_laws.proofs.Starts.{look-at-good}
 use Rattle.seek_laws.proofs.Jump.{jump}
-use Rattle.places.specs.Held.{filled}
 use Rattle.rows.specs.Rows.{row, front}
-use Rattle.stream.specs.Places.{readerAt}
+use Rattle.feeding.specs.Places.{readerAt}
 use Rattle.fed_rows.specs.FedRows.{FeedsRow, FrontRow}
 use Rattle.fed_rows.proofs.Laid.{with-frame}
 

@@ -8,7 +8,7 @@ use lib.IntN.{ℤ}
 use lib.ListN.{length}
 use Rattle.stream_rules.specs.Streams.{wrap, fed, saidToFeed}
 use Rattle.stream_rules.specs.declared.Reader.{Reader}
-use Rattle.stream.specs.Places.{readerAt}
+use Rattle.feeding.specs.Places.{readerAt}
 use Rattle.rows.specs.Rows.{rowFed, Lays}
 use Rattle.fed_rows.specs.declared.Counts.{Counts}
 

@@ -4,6 +4,7 @@
 // frame's bytes; `going` has those in which nothing is decided.
 mod going;
 
+use feeding::feed_places;
 use frame_rows::read_row;
 use going::feed_on;
 use going::goes_on;
@@ -20,7 +21,6 @@ use spe_tests::is_command;
 use stamps::advanced;
 use starts::bytes_needed;
 use starts::longest_frame;
-use stream::feed_places;
 ghost use mathlib.Core.Path.{_≡_};
 ghost use mathlib.Core.Bool.{true};
 ghost use Prim.Native.Nat.{_+_, _≤_, _<_};

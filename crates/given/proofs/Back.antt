@@ -10,7 +10,7 @@ use lib.Dec.{eqb, leb}
 use lib.IntN.{ℤ, pos, negsuc, natAbs}
 use lib.ListN.{getD}
 use Rattle.rules.specs.Bytes.{ascii, oneOf, every}
-use Rattle.rules.specs.Status.{by, statusInRange}
+use Rattle.rules.specs.Status.{by, statusInRange, warnings, alarms}
 use Rattle.rules.specs.Sentences.{fit, numbers02, inRange02, numbers03, inRange03, inRange05}
 use Rattle.rules.specs.Answers.{numbers05, values, allowed}
 use Rattle.rules.specs.declared.Status as StatusType
@@ -187,8 +187,8 @@ module _ (s : StatusType.Status) (e : statusInRange s ≡ true) where
   signs-bytes : AllBytes (signs s)
   unfolding statusInRange every
   signs-bytes =
-      let warning = letter (ascii "MASBPOYWKRTCN") (s .warning) refl (search tests depth 25) in
-      let alarm = letter (ascii "SADHCN") (s .alarm) refl (search tests depth 25) in
+      let warning = letter warnings (s .warning) refl (search tests depth 25) in
+      let alarm = letter alarms (s .alarm) refl (search tests depth 25) in
       omega arith
 
   status-row : isStatusRow (values (Status s)) ≡ true

@@ -12,7 +12,7 @@ use Rattle.rules.specs.declared.Frame.{Frame}
 use Rattle.rules.specs.declared.Reading.{Reading}
 use Rattle.rules.specs.declared.Reading.the-variants.{Good, Refused}
 use Rattle.stream_rules.specs.Heads.{longest, lengthAt, Head, wait, bad, good, headOf, head}
-use Rattle.stream_rules.specs.Settled.{settled}
+use Rattle.head_laws.specs.Settled.{settled}
 
 -- The first s bytes settle the head: it is h with them and any more, and undecided with fewer.
 pub record Settles (family : ℕ) (bs : List ℕ) (s : ℕ) (h : Head) : Type 0 where

@@ -13,7 +13,7 @@ use Rattle.rules.specs.Answers.{readOne}
 use Rattle.rules.specs.declared.Frame.{Frame}
 use Rattle.rules.specs.declared.Reading.the-variants.{Good}
 use Rattle.stream_rules.specs.Heads.{longest, lengthAt, Head, wait, bad, good, head}
-use Rattle.stream_rules.specs.Settled.{settled}
+use Rattle.head_laws.specs.Settled.{settled}
 use Rattle.head_laws.proofs.Course.{Settles, Course, waits, turns-bad, is-whole, headOf-decided, headOf-good}
 use Rattle.head_laws.proofs.PacketStarts as Packet
 use Rattle.head_laws.proofs.PacketCourse

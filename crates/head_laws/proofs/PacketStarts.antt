@@ -20,7 +20,7 @@ use Rattle.rules.specs.declared.Frame.{Frame}
 use Rattle.rules.specs.declared.Reading.the-variants.{Good, Refused}
 use Rattle.laws.proofs.Bytes.{tests, same-eq, cond-cases}
 use Rattle.stream_rules.specs.Heads.{longest, markOf, needs, spe-undecided, undecided, wait, bad, good, headOf, head}
-use Rattle.stream_rules.specs.Settled.{spe-settled, settled}
+use Rattle.head_laws.specs.Settled.{spe-settled, settled}
 use Rattle.head_laws.proofs.Lists.{every-at, fails-at, front-at, front-and-rest}
 use Rattle.head_laws.proofs.Course.{passed, headOf-bad}
 

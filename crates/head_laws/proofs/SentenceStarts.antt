@@ -20,7 +20,7 @@ use Rattle.rules.specs.declared.Frame.{Frame}
 use Rattle.rules.specs.declared.Reading.the-variants.{Good}
 use Rattle.laws.proofs.Bytes.{tests, same-eq, between-bounds}
 use Rattle.stream_rules.specs.Heads.{openEnd, sentence-undecided, undecided, wait, bad, good, headOf, head}
-use Rattle.stream_rules.specs.Settled.{sentence-settled, settled}
+use Rattle.head_laws.specs.Settled.{sentence-settled, settled}
 use Rattle.head_laws.proofs.Lists.{front-and-rest}
 use Rattle.head_laws.proofs.Course.{passed, headOf-bad}
 use Rattle.head_laws.proofs.Runs.{run, run-up-to}

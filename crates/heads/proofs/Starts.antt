@@ -15,7 +15,7 @@ use lib.ListN.{length, take, getD}
 use Rattle.rules.specs.Answers.{readOne}
 use Rattle.laws.proofs.Bytes.{answer}
 use Rattle.stream_rules.specs.Heads.{wait, bad, markOf, needs, lengthAt, undecided as waits, headOf, head}
-use Rattle.stream_rules.specs.Settled.{spe-settled, sentence-settled, settled}
+use Rattle.head_laws.specs.Settled.{spe-settled, sentence-settled, settled}
 use Rattle.head_laws.proofs.Course.{headOf-decided, headOf-bad}
 use Rattle.head_laws.proofs.Heads.{good-head}
 use Rattle.head_laws.proofs.PacketStarts.{Marks, few-marks, needs-six}

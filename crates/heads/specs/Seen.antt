@@ -4,7 +4,7 @@ use mathlib.Core.Bool.{cond}
 use mathlib.Core.List.{List}
 use lib.Dec.{eqb}
 use Rattle.stream_rules.specs.Heads.{undecided, lengthAt}
-use Rattle.stream_rules.specs.Settled.{settled}
+use Rattle.head_laws.specs.Settled.{settled}
 use Rattle.heads.specs.declared.Seen as SeenType
 use Rattle.heads.specs.declared.Seen.the-variants.{Whole, Bad, Undecided}
 

@@ -217,7 +217,7 @@ module _ (n : ℕ) (ts : List (List ℕ)) (small : n < 100) (clean : every (ever
       let bytes = every-append isPayloadByte (ascii "APA" ++ two) (commas ts) front (commas-payload ts clean) in
       let long = le-leb 5 (length p) (omega arith) in
       let not-long = le-leb (length p) 128 (omega arith) in
-      simp and-eq-true-iff (((((long, not-long), bytes), eq-same (ascii "APA") (ascii "APA") refl), digits), commas-start ts)
+      simp and-eq-true-iff (((long, not-long), bytes), ((eq-same (ascii "APA") (ascii "APA") refl, digits), commas-start ts))
 
   pub payload-texts : textsOf (payload n ts) ≡ ts
   unfolding withZeros

@@ -7,9 +7,9 @@ use native.Mathlib.Nat.{zero-add, suc-sub-suc, sub-zero}
 use native.Mathlib.Omega.{arith}
 use lib.ListN.{length, take, drop, replicate, length-append, length-replicate}
 use lib.Seq.{take-at}
+use Rattle.stream_rules.specs.Streams.{filled}
 use Rattle.pens.specs.Pens.{laid}
 use Rattle.pens.proofs.Laid.{laid-front, laid-behind}
-use Rattle.places.specs.Held.{filled}
 
 abbrev pub zeros : ℕ → List ℕ
 zeros n = replicate n 0

@@ -5,12 +5,9 @@ use mathlib.Core.Path.{_≡_, sym, _∙_}
 use mathlib.Core.List.{List, []}
 use lib.ListN.{length}
 use Rattle.rules.specs.Bytes.{part}
+use Rattle.stream_rules.specs.Streams.{filled}
 use Rattle.pens.specs.Pens.{laid}
-use Rattle.places.specs.Held.{filled}
-
--- a content that is named, of places that are 133
-abbrev Leaves : List ℕ → List ℕ → List ℕ → Type 0
-Leaves places content exit = length places ≡ 133 → exit ≡ content
+use Rattle.places.specs.Held.{Leaves}
 
 one-content : (places content x y : List ℕ) → length places ≡ 133 → Leaves places content x → Leaves places content y → x ≡ y
 one-content places content x y long p q = p long ∙ sym (q long)

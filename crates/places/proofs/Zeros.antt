@@ -11,7 +11,7 @@ use lib.Bits.{bitOr, or-add-and, and-le-l, and-le-r}
 use lib.Dec.{leb}
 use lib.ListN.{length, getD, getD-replicate}
 use lib.Seq.{ext-getD}
-use Rattle.places.specs.Held.{filled}
+use Rattle.stream_rules.specs.Streams.{filled}
 use Rattle.places.proofs.Buffers.{zeros, length-zeros}
 
 -- the first and the second of two numbers

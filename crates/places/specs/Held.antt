@@ -1,8 +1,9 @@
--- What stands in the 133 held places of a stream reader: some bytes at their front, and zeros behind them.
-use Prim.Native.Nat.{ℕ, _-_}
-use mathlib.Core.List.{List, _++_}
-use lib.ListN.{length, replicate}
+-- What a function leaves in the held places of a stream reader.
+use Prim.Native.Nat.{ℕ}
+use mathlib.Core.Path.{_≡_}
+use mathlib.Core.List.{List}
+use lib.ListN.{length}
 
--- bytes in the held places, with zeros behind them
-abbrev pub filled : List ℕ → List ℕ
-filled bytes = bytes ++ replicate (133 - length bytes) 0
+-- A content that is named, of places that are 133. They are by their type, which is said here because a list has no such type.
+abbrev pub Leaves : List ℕ → List ℕ → List ℕ → Type 0
+Leaves places content exit = length places ≡ 133 → exit ≡ content

@@ -1,2 +1,2 @@
--- What stands in the held places of a stream reader.
+-- What a function leaves in the held places of a stream reader.
 pub mod Held

@@ -8,8 +8,9 @@ ghost use mathlib.Core.List.{[]};
 ghost use Prim.Native.Nat.{_+_, _≤_};
 ghost use lib.ListN.{length, take};
 ghost use Rattle.rules.specs.Bytes.{part};
+ghost use Rattle.stream_rules.specs.Streams.{filled};
 ghost use Rattle.pens.specs.Pens.{laid};
-ghost use Rattle.places.specs.Held.{filled};
+ghost use Rattle.places.specs.Held.{Leaves};
 
 // How many places there are: a function of its own, because a proof knows no length of an array behind a
 // reference, and has it of the slice that this is lent.
@@ -21,7 +22,7 @@ pub fn size(places: &[u8]) -> usize
 
 // Zeros from one of the places on.
 fn clear_from(places: &mut [u8; 133], from: usize)
-    ensures { λ _. ⌜ (length (now (places .entry)) ≡ 133 → now (places .exit) ≡ filled (take from (now (places .entry)))) ⌝ }
+    ensures { λ _. ⌜ Leaves (now (places .entry)) (filled (take from (now (places .entry)))) (now (places .exit)) ⌝ }
 {
     let mut i = from;
     while i < 133 {
@@ -47,7 +48,7 @@ fn block_of(few: &[u8]) -> [u8; 16]
 // Sixteen bytes laid at a place. All are read before one is written, so that the compiler moves them at once.
 fn put_block(places: &mut [u8; 133], at: usize, few: &[u8])
     requires { ⌜ (length (now few) ≡ 16) × (at + 16 ≤ 133) ⌝ }
-    ensures { λ _. ⌜ (length (now (places .entry)) ≡ 133 → now (places .exit) ≡ laid at (now (few .entry)) (now (places .entry))) ⌝ }
+    ensures { λ _. ⌜ Leaves (now (places .entry)) (laid at (now (few .entry)) (now (places .entry))) (now (places .exit)) ⌝ }
 {
     let block = block_of(few);
     let mut i = 0;
@@ -59,7 +60,7 @@ fn put_block(places: &mut [u8; 133], at: usize, few: &[u8])
 
 // Bytes laid at a place, where there is room for them, sixteen of them as a block. The other places stay as they are.
 pub fn lay(places: &mut [u8; 133], at: usize, few: &[u8])
-    ensures { λ _. ⌜ (length (now (places .entry)) ≡ 133 → now (places .exit) ≡ laid at (now (few .entry)) (now (places .entry))) ⌝ }
+    ensures { λ _. ⌜ Leaves (now (places .entry)) (laid at (now (few .entry)) (now (places .entry))) (now (places .exit)) ⌝ }
 {
     if few.len() != 16 {
         put_bytes(places, at, few);
@@ -73,7 +74,7 @@ pub fn lay(places: &mut [u8; 133], at: usize, few: &[u8])
 // Keeps so many places from one of them on, with zeros behind them. From the front there is nothing to move, and where they
 // are none, nothing to copy.
 pub fn keep_part(places: &mut [u8; 133], a: usize, n: usize)
-    ensures { λ _. ⌜ (length (now (places .entry)) ≡ 133 → now (places .exit) ≡ filled (part a n (now (places .entry)))) ⌝ }
+    ensures { λ _. ⌜ Leaves (now (places .entry)) (filled (part a n (now (places .entry)))) (now (places .exit)) ⌝ }
 {
     if a == 0 {
         clear_from(places, n);
@@ -114,7 +115,7 @@ fn is_clear(places: &[u8; 133]) -> bool
 
 // Zeros in all places. Where they are there already nothing is written.
 pub fn clear(places: &mut [u8; 133])
-    ensures { λ _. ⌜ (length (now (places .entry)) ≡ 133 → now (places .exit) ≡ filled []) ⌝ }
+    ensures { λ _. ⌜ Leaves (now (places .entry)) (filled []) (now (places .exit)) ⌝ }
 {
     if !is_clear(places) {
         *places = [0u8; 133];

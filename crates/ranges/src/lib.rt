@@ -1,5 +1,5 @@
-// Whether a record holds only values that its fields can carry. The readers ask it of what they
-// read, and the writers of what they are given.
+// Whether a record holds only values that its fields can carry. The writers ask it of what they are
+// given, and the readers of 02 and 03 of what they read.
 use rules::Sentence02;
 use rules::Sentence03;
 use rules::Sentence05;

@@ -36,12 +36,12 @@ frameCode (Apa05 r) = 5
 frameCode (Other n) = n
 
 -- Counts are laid modulo 2^63: nothing that C can lend is that long.
-abbrev pub whole : ℕ → ℤ
-whole n = pos (n % 2 ^ 63)
+abbrev pub counted : ℕ → ℤ
+counted n = pos (n % 2 ^ 63)
 
 -- the six numbers in front of the values
 abbrev pub head : ℕ → ℕ → ℕ → ℕ → ℕ → ℕ → List ℤ
-head kind code taken start skipped size = pos kind ∷ pos code ∷ whole taken ∷ pos start ∷ pos skipped ∷ whole size ∷ []
+head kind code taken start skipped size = pos kind ∷ pos code ∷ counted taken ∷ pos start ∷ pos skipped ∷ counted size ∷ []
 
 abbrev pub row : ℕ → ℕ → ℕ → ℕ → Frame → List ℤ
 row taken start skipped size f = head (frameKind f) (frameCode f) taken start skipped size ++ values f

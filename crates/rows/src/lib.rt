@@ -15,7 +15,7 @@ ghost use Prim.Native.Nat.{_+_, _≤_};
 ghost use Rattle.rules.specs.Answers.{said, statusNumbers, numbers05, values};
 ghost use Rattle.rules.specs.Sentences.{numbers02, numbers03};
 ghost use Rattle.stream_rules.specs.Streams.{saidToFeed};
-ghost use Rattle.rows.specs.Rows.{frameKind, frameCode, whole, head, row, rowFed, rowAt, laidAt, LaysRow, Lays};
+ghost use Rattle.rows.specs.Rows.{frameKind, frameCode, counted, head, row, rowFed, rowAt, laidAt, LaysRow, Lays};
 
 // The numbers from a place on.
 fn put_numbers(numbers: &mut [i64], at: usize, what: &[u32])
@@ -31,7 +31,7 @@ fn put_numbers(numbers: &mut [i64], at: usize, what: &[u32])
 
 // A count, modulo 2^63.
 fn count(n: usize) -> i64
-    ensures { λ r. ⌜ r ≡ whole n ⌝ }
+    ensures { λ r. ⌜ r ≡ counted n ⌝ }
 {
     (n % 0x8000_0000_0000_0000) as i64
 }

@@ -36,10 +36,11 @@ abbrev pub nothingOrComma : List ℕ → Bool
 nothingOrComma [] = true
 nothingOrComma (b ∷ bs) = eqb b (code ",")
 
+abbrev pub isNamed : List ℕ → Bool
+isNamed p = same (take 3 p) (ascii "APA") && every isDigit (part 3 2 p) && nothingOrComma (drop 5 p)
+
 unfoldable pub isPayload : List ℕ → Bool
-isPayload p =
-    between 5 128 (length p) && every isPayloadByte p
-    && same (take 3 p) (ascii "APA") && every isDigit (part 3 2 p) && nothingOrComma (drop 5 p)
+isPayload p = between 5 128 (length p) && every isPayloadByte p && isNamed p
 
 -- A frame is `$`, the payload, `*` and four uppercase hexadecimal digits that give sum2, then sum1.
 abbrev pub payloadOf : List ℕ → List ℕ

@@ -81,6 +81,13 @@ statusOf d = record {
 abbrev pub by : ℕ → {A : Type 0} → A → A → A
 by id for20K for13K = cond (eqb id 20) for20K for13K
 
+-- the letters of a warning and of an alarm, N for none
+abbrev pub warnings : List ℕ
+warnings = ascii "MASBPOYWKRTCN"
+
+abbrev pub alarms : List ℕ
+alarms = ascii "SADHCN"
+
 -- The rules of the fields, in their order.
 unfoldable pub statusInRange : Status → Bool
 statusInRange s =
@@ -97,8 +104,8 @@ statusInRange s =
     && leb (s .swratu) 9999 && leb (s .swrant) 9999
     && leb (s .volts) 999 && leb (s .amperes) 999
     && leb (s .upper) 999 && leb (s .lower) (by (s .id) 999 0) && leb (s .combiner) (by (s .id) 999 0)
-    && oneOf (ascii "MASBPOYWKRTCN") (s .warning)
-    && oneOf (ascii "SADHCN") (s .alarm)
+    && oneOf warnings (s .warning)
+    && oneOf alarms (s .alarm)
 
 -- the 67 data bytes of a report
 abbrev pub dataOf : List ℕ → List ℕ

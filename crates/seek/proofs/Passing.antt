@@ -14,7 +14,7 @@ use lib.ListN.{length, drop, getD, length-drop}
 use lib.Seq.{getD-drop}
 use Rattle.rules.specs.Sentences.{isPayloadByte}
 use Rattle.stream_rules.specs.Heads.{markOf, needs, payloadRun, bad, head}
-use Rattle.stream_rules.specs.Settled.{settled}
+use Rattle.head_laws.specs.Settled.{settled}
 use Rattle.head_laws.proofs.PacketStarts.{needs-none, Marks, no-marks, one-more, no-mark, no-count}
 use Rattle.head_laws.proofs.Runs.{run, run-within}
 use Rattle.head_laws.proofs.SentenceStarts.{no-dollar}

@@ -11,7 +11,7 @@ use Rattle.rules.specs.Answers.{readOne}
 use Rattle.rules.specs.declared.Frame.{Frame}
 use Rattle.stream_rules.specs.Heads.{bad, good, headOf, head}
 use Rattle.stream_rules.specs.Rule.{Look, byLook}
-use Rattle.stream_rules.specs.Settled.{reach}
+use Rattle.head_laws.specs.Settled.{reach}
 use Rattle.head_laws.proofs.Heads.{GoodHead, good-head}
 use Rattle.head_laws.proofs.PacketStarts.{Marks, bytes-missing, all-there}
 use Rattle.starts.proofs.Beginning.{Begun}

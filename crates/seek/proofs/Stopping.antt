@@ -12,7 +12,7 @@ use lib.ListN.{length, take, drop, length-drop}
 use lib.Seq.{drop-drop}
 use Rattle.rules.specs.Answers.{readOne}
 use Rattle.stream_rules.specs.Heads.{markOf, wait, bad, headOf, head}
-use Rattle.stream_rules.specs.Settled.{settled, reach}
+use Rattle.head_laws.specs.Settled.{settled, reach}
 use Rattle.head_laws.proofs.Course.{headOf-decided}
 use Rattle.head_laws.proofs.Heads.{settling}
 use Rattle.seek.specs.Sought.{AtStop, Walks, Unmarked, Stops}

@@ -6,7 +6,7 @@ use lib.ListN.{length, take, drop, getD}
 use Rattle.rules.specs.Answers.{readOne}
 use Rattle.stream_rules.specs.Heads.{wait, bad, headOf, head, atClose}
 use Rattle.stream_rules.specs.Rule.{look, byLook}
-use Rattle.stream_rules.specs.Settled.{settled, reach}
+use Rattle.head_laws.specs.Settled.{settled, reach}
 use Rattle.seek.specs.declared.Sought as SoughtType
 use Rattle.seek.specs.declared.Sought.the-variants.{Ready, Waiting}
 use Rattle.seek.specs.declared.Stop.{Stop}

@@ -11,7 +11,7 @@ use lib.ListN.{length, take, drop, length-append, length-drop, take-append-drop}
 use lib.Seq.{take-nil, take-append-add, length-slice}
 use Rattle.rules.specs.declared.Frame.{Frame}
 use Rattle.stream_rules.specs.Heads.{longest, wait, head}
-use Rattle.stream_rules.specs.Settled.{settled, reach}
+use Rattle.head_laws.specs.Settled.{settled, reach}
 use Rattle.stream_rules.specs.Rule.{Look, ready, waiting, look, gives, call}
 use Rattle.head_laws.proofs.Course.{Settles}
 use Rattle.head_laws.proofs.Heads.{settling, good-head}

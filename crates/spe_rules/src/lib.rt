@@ -1,5 +1,6 @@
 // The rules of the SPE families as tests: which codes are commands, which are acknowledged, and
-// which values a status report can hold. Readers and writers share them.
+// which values a status report can hold. Readers and writers share the codes; the values are
+// asked of a record that is to be written.
 use leaves::one_of;
 use rules::Status;
 ghost use mathlib.Core.Path.{_≡_};

@@ -11,7 +11,7 @@ use lib.Dec.{eqb, leb}
 use lib.ListN.{length, take, getD}
 use Rattle.rules.specs.Bytes.{ascii, oneOf, between, every, same, first, total}
 use Rattle.rules.specs.Numbers.{isDigit, decimal, padded, paddedNumber, pointed, pointedNumber}
-use Rattle.rules.specs.Status.{joined, cut, widths, field, readable, statusInRange, statusOf}
+use Rattle.rules.specs.Status.{joined, cut, widths, field, readable, statusInRange, statusOf, warnings, alarms}
 use Rattle.laws.proofs.Bytes.{one-by-one, places, every-weaker, one-of-these, alike}
 use Rattle.laws.proofs.Fields.{commasAt, commas-at}
 use Rattle.leaves.specs.Leaves.{inBounds}
@@ -141,8 +141,8 @@ module _ (bytes : List ℕ) where
       ∷ (padded (field 15 d) ∷ leb (paddedNumber (field 15 d)) 999 ∷ [])
       ∷ (padded (field 16 d) ∷ leb (paddedNumber (field 16 d)) (cond big 999 0) ∷ [])
       ∷ (padded (field 17 d) ∷ leb (paddedNumber (field 17 d)) (cond big 999 0) ∷ [])
-      ∷ (oneOf (ascii "MASBPOYWKRTCN") (first (field 18 d)) ∷ [])
-      ∷ (oneOf (ascii "SADHCN") (first (field 19 d)) ∷ [])
+      ∷ (oneOf warnings (first (field 18 d)) ∷ [])
+      ∷ (oneOf alarms (first (field 19 d)) ∷ [])
       ∷ []
 
   abbrev bytesOf : ℕ → Bool
@@ -167,8 +167,8 @@ module _ (bytes : List ℕ) where
       ∷ (bytesOf 15 ∷ spacesFirst (field 15 d) ∷ [])
       ∷ (bytesOf 16 ∷ spacesFirst (field 16 d) ∷ cond big true (noneAboveZero (field 16 d)) ∷ [])
       ∷ (bytesOf 17 ∷ spacesFirst (field 17 d) ∷ cond big true (noneAboveZero (field 17 d)) ∷ [])
-      ∷ (bytesOf 18 ∷ oneOf (ascii "MASBPOYWKRTCN") (first (field 18 d)) ∷ [])
-      ∷ (bytesOf 19 ∷ oneOf (ascii "SADHCN") (first (field 19 d)) ∷ [])
+      ∷ (bytesOf 18 ∷ oneOf warnings (first (field 18 d)) ∷ [])
+      ∷ (bytesOf 19 ∷ oneOf alarms (first (field 19 d)) ∷ [])
       ∷ []
 
   rules-are : (readable d && statusInRange (statusOf d)) ≡ rulesInOrder (numbered (rules (eqb (decimal (take 2 (field 1 d))) 20)))
@@ -215,8 +215,8 @@ module _ (bytes : List ℕ) where
       && number-text (x 51) (x 52 ∷ x 53 ∷ []) 999 (omega arith) i
       && warmth-text big (x 55) (x 56) (x 57) i
       && warmth-text big (x 59) (x 60) (x 61) i
-      && letter-text (ascii "MASBPOYWKRTCN") 65 89 (x 63) refl i
-      && letter-text (ascii "SADHCN") 65 83 (x 65) refl i)
+      && letter-text warnings 65 89 (x 63) refl i
+      && letter-text alarms 65 83 (x 65) refl i)
 
   -- the ID's number and its first digit tell the same, where the ID is good
   id-tells : rulesByField (numbered (rules (eqb (decimal (x 1 ∷ x 2 ∷ [])) 20))) ≡ rulesByField (numbered (rules (eqb (x 1) 50)))

@@ -6,7 +6,7 @@ use mathlib.Core.List.{List, [], _∷_}
 use lib.Dec.{eqb, leb}
 use lib.ListN.{getD}
 use Rattle.rules.specs.Bytes.{ascii, oneOf, every, first, same}
-use Rattle.rules.specs.Status.{field, joined, cut, widths, readable, statusInRange, statusOf}
+use Rattle.rules.specs.Status.{field, joined, cut, widths, readable, statusInRange, statusOf, warnings, alarms}
 
 -- b may stand behind a in a padded number: a space only behind a space
 abbrev pub follows : ℕ → ℕ → Bool
@@ -26,8 +26,8 @@ lettersGood d =
     && oneOf (ascii "RT") (first (field 3 d))
     && oneOf (ascii "tba") (getD (field 7 d) 1 0)
     && oneOf (ascii "LMH") (first (field 9 d))
-    && oneOf (ascii "MASBPOYWKRTCN") (first (field 18 d))
-    && oneOf (ascii "SADHCN") (first (field 19 d))
+    && oneOf warnings (first (field 18 d))
+    && oneOf alarms (first (field 19 d))
 
 -- no byte is above the digit 0: so a padded number is zero
 abbrev pub noneAboveZero : List ℕ → Bool

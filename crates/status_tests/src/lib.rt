@@ -6,8 +6,8 @@ use leaves::wide;
 use leaves::within;
 ghost use mathlib.Core.Path.{_≡_};
 ghost use lib.ListN.{length};
-ghost use Rattle.rules.specs.Bytes.{ascii, oneOf, same};
-ghost use Rattle.rules.specs.Status.{statusFrame, dataOf, isStatus};
+ghost use Rattle.rules.specs.Bytes.{oneOf, same};
+ghost use Rattle.rules.specs.Status.{statusFrame, dataOf, isStatus, warnings, alarms};
 ghost use Rattle.status_tests.specs.Tests.{allFollow, lettersGood, limitsGood, dataGood};
 
 // Whether the bytes are a report's frame around their own data: marks, count, sums, 0D 0A.
@@ -46,7 +46,7 @@ fn spaces(marks: &[u8], d: &[u8]) -> bool
 // Whether the letter is one of a warning, and below of an alarm: without a loop, so that the compiler makes
 // one test of all letters.
 fn is_warning(b: u8) -> bool
-    ensures { λ r. ⌜ r ≡ oneOf (ascii "MASBPOYWKRTCN") b ⌝ }
+    ensures { λ r. ⌜ r ≡ oneOf warnings b ⌝ }
 {
     (b == b'M')
         | (b == b'A')
@@ -64,7 +64,7 @@ fn is_warning(b: u8) -> bool
 }
 
 fn is_alarm(b: u8) -> bool
-    ensures { λ r. ⌜ r ≡ oneOf (ascii "SADHCN") b ⌝ }
+    ensures { λ r. ⌜ r ≡ oneOf alarms b ⌝ }
 {
     (b == b'S') | (b == b'A') | (b == b'D') | (b == b'H') | (b == b'C') | (b == b'N')
 }

@@ -30,13 +30,17 @@ holds family = longest family - 1
 abbrev pub heldOf : Reader → List ℕ
 heldOf r = take (r .count) (r .held)
 
--- the state that holds these bytes, from the first place on, with zeros in the unused places
+-- bytes in the 133 held places, from the first on, with zeros in the unused ones
+abbrev pub filled : List ℕ → List ℕ
+filled bytes = bytes ++ replicate (133 - length bytes) 0
+
+-- the state that holds these bytes
 abbrev pub holding : ℕ → ℕ → List ℕ → ℕ → ℕ → Reader
 holding family closed bytes at skipped = record {
   family = family;
   closed = closed;
   count = length bytes;
-  held = bytes ++ replicate (133 - length bytes) 0;
+  held = filled bytes;
   at = at;
   skipped = skipped;
 }

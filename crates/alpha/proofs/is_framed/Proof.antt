@@ -8,8 +8,8 @@ use denote.Ref.{now}
 use borrow.Author.Needs.{needs}
 use borrow.Author.Tests.{not-true, not-false}
 use Rattle.rules.specs.Bytes.{part}
-use Rattle.rules.specs.Sentences.{isSentence}
-use Rattle.alpha.specs.Payloads.{isNamed, isChecked}
+use Rattle.rules.specs.Sentences.{isNamed, isSentence}
+use Rattle.alpha.specs.Payloads.{isChecked}
 use Rattle.alpha.proofs.Frames.{too-short, too-long, no-dollar, no-star, by-tests}
 use Rattle.alpha.proofs.is_framed.Statement.{statement}
 use Rattle.alpha.proofs.is_framed.Tie as tie

@@ -46,7 +46,7 @@ use denote.Triple.Walked.{says, Stays, stay-ref, stay-none-slice, gave-slice, wa
 use Rattle.stream_rules.specs.declared.Reader.{Reader}
 use Rattle.stream_rules.proofs.Reader as R
 use Rattle.stream_rules.proofs.Reader.Laws as R′
-use Rattle.stream.specs.Places.{readerAt}
+use Rattle.feeding.specs.Places.{readerAt}
 use Rattle.fed_rows.specs.FedRows.{FeedsRow, FeedsRowAt}
 use Rattle.fed_rows.specs.declared.Counts.{Counts}
 use Rattle.fed_rows.proofs.Counts as T

@@ -10,7 +10,7 @@ use borrow.Author.Needs.{needs}
 use borrow.Author.Tests.{ltb-false}
 use lib.ListN.{length}
 use Rattle.stream_rules.specs.declared.Reader.{Reader}
-use Rattle.stream.specs.Places.{readerAt}
+use Rattle.feeding.specs.Places.{readerAt}
 use Rattle.fed_rows.proofs.Fed.{laid, not-laid, as-it-was}
 use Rattle.fed_rows.proofs.feed_any.Statement.{statement}
 use Rattle.fed_rows.proofs.feed_any.Tie as tie

@@ -11,11 +11,11 @@ use Rattle.rules.specs.Bytes.{part}
 use Rattle.stream_laws.proofs.States.{longest-fits}
 use Rattle.seek.specs.declared.laying.Place.{Place}
 use Rattle.pens.specs.Pens.{laid as laidAt}
-use Rattle.places.specs.Held.{filled}
 use Rattle.places.proofs.Appending.{at-front, front-long, still-133}
 use Rattle.places.proofs.Keeping.{part-of-front}
 use Rattle.fed_rows.proofs.Few.{FewAt, few-at}
 use borrow.Author.Needs.{needs}
+use Rattle.stream_rules.specs.Streams.{filled}
 use Rattle.fed_rows.proofs.feed_few.Statement.{statement}
 use Rattle.fed_rows.proofs.feed_few.Tie as tie
 

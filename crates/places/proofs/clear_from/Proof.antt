@@ -10,9 +10,9 @@ use borrow.Author.Tests.{leb-true, leb-false}
 use lib.Dec.{leb}
 use lib.ListN.{length, take, drop, set, replicate-append-replicate, drop-of-length-le}
 use lib.Seq.{length-take-le, take-all}
+use Rattle.stream_rules.specs.Streams.{filled}
 use Rattle.pens.specs.Pens.{laid}
 use Rattle.pens.proofs.Laid.{laid-fits, laid-none, laid-behind, length-laid, set-laid}
-use Rattle.places.specs.Held.{filled}
 use Rattle.places.proofs.Buffers.{zeros, length-zeros}
 use Rattle.places.proofs.clear_from.Statement.{statement}
 use Rattle.places.proofs.clear_from.Tie as tie

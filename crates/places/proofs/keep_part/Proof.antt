@@ -7,8 +7,8 @@ use native.Mathlib.Omega.{arith}
 use borrow.Author.Needs.{needs}
 use lib.ListN.{drop, length-take, length-drop}
 use Rattle.rules.specs.Bytes.{part}
+use Rattle.stream_rules.specs.Streams.{filled}
 use Rattle.pens.specs.Pens.{laid}
-use Rattle.places.specs.Held.{filled}
 use Rattle.places.proofs.Buffers.{zeros, fills}
 use Rattle.places.proofs.keep_part.Statement.{statement}
 use Rattle.places.proofs.keep_part.Tie as tie

@@ -9,17 +9,17 @@ use mir.Val.{toZ, ofZ}
 use mir.ValLaws.{toZ-pos}
 use lib.IntN.{ℤ, pos}
 use lib.ListN.{set, length-set}
-use Rattle.rows.specs.Rows.{whole, head, laidAt}
+use Rattle.rows.specs.Rows.{counted, head, laidAt}
 use borrow.Author.Needs.{needs}
 use Rattle.rows.proofs.put_head.Statement.{statement}
 use Rattle.rows.proofs.put_head.Tie as tie
 
 -- a count is stored as it is
-stored : (z : ℤ) (n : ℕ) → z ≡ whole n → toZ w64 (ofZ w64 z) ≡ whole n
+stored : (z : ℤ) (n : ℕ) → z ≡ counted n → toZ w64 (ofZ w64 z) ≡ counted n
 stored z n e = rw e (toZ-pos w64 (n % 2 ^ 63) (omega arith))
 
 filled : (kind code taken start skipped size : ℕ) (numbers laid : List ℤ) (x y : ℤ)
-    → laid ≡ laidAt 0 (pos kind ∷ pos code ∷ pos 0 ∷ pos start ∷ pos skipped ∷ pos 0 ∷ []) numbers → x ≡ whole taken → y ≡ whole size
+    → laid ≡ laidAt 0 (pos kind ∷ pos code ∷ pos 0 ∷ pos start ∷ pos skipped ∷ pos 0 ∷ []) numbers → x ≡ counted taken → y ≡ counted size
     → set (set laid 2 x) 5 y ≡ laidAt 0 (head kind code taken start skipped size) numbers
 unfolding laidAt
 filled kind code taken start skipped size numbers laid x y e p q = rw (e, p, q)

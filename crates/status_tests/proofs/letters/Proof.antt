@@ -6,7 +6,8 @@ use mathlib.Core.Bool.{Bool, _&&_, _||_}
 use mathlib.Core.List.{List}
 use lib.Dec.{eqb}
 use lib.ListN.{length, getD}
-use Rattle.rules.specs.Bytes.{ascii, oneOf}
+use Rattle.rules.specs.Bytes.{oneOf}
+use Rattle.rules.specs.Status.{warnings, alarms}
 use Rattle.laws.proofs.Bytes.{one-by-one}
 use Rattle.status_tests.specs.Tests.{lettersGood}
 use Rattle.status_tests.proofs.Texts.{one-of-two, one-of-three}
@@ -15,7 +16,7 @@ use Rattle.status_tests.proofs.letters.Statement.{statement}
 use Rattle.status_tests.proofs.letters.Tie as tie
 
 letters-are : (d : List ℕ) → length d ≡ 67 → (warning alarm : Bool)
-    → warning ≡ oneOf (ascii "MASBPOYWKRTCN") (getD d 63 0) → alarm ≡ oneOf (ascii "SADHCN") (getD d 65 0)
+    → warning ≡ oneOf warnings (getD d 63 0) → alarm ≡ oneOf alarms (getD d 65 0)
     → ((eqb (getD d 5 0) 83 || eqb (getD d 5 0) 79) && (eqb (getD d 7 0) 82 || eqb (getD d 7 0) 84)
     && (eqb (getD d 17 0) 116 || eqb (getD d 17 0) 98 || eqb (getD d 17 0) 97)
     && (eqb (getD d 22 0) 76 || eqb (getD d 22 0) 77 || eqb (getD d 22 0) 72) && warning && alarm)

@@ -7,7 +7,7 @@ use native.Mathlib.Omega.{arith}
 use borrow.Author.Needs.{needs}
 use borrow.Author.Tests.{eq-eqb, le-leb}
 use lib.ListN.{length, take}
-use Rattle.places.specs.Held.{filled}
+use Rattle.stream_rules.specs.Streams.{filled}
 use Rattle.places.proofs.Appending.{at-front, still-133}
 use Rattle.fed_rows.proofs.Few.{goes-on}
 use Rattle.fed_rows.proofs.going.feed_on.Statement.{statement}
