@@ -48,21 +48,7 @@ fn lay_02(r: Sentence02, out: &mut [u8])
     ensures { λ _. ⌜ now (out .exit) ≡ laid 0 (bytes02 r) (now (out .entry)) ⌝ }
 {
     let widths = [5, 3, 4, 4, 4, 3, 3, 3, 1, 1, 2, 1, 5];
-    let numbers = [
-        r.pfwd,
-        r.swr,
-        r.pin,
-        r.vp,
-        r.ip,
-        r.gain,
-        r.vg,
-        r.ig,
-        r.band,
-        r.state,
-        r.fault,
-        r.key,
-        r.pep,
-    ];
+    let numbers = fields::of_02(r);
     pens::put_bytes(out, 0, b"$APA02");
     put_decimals(out, 6, &widths, &numbers);
     put_seal(out, 57);
@@ -122,16 +108,7 @@ fn lay_03(r: Sentence03, out: &mut [u8])
     ensures { λ _. ⌜ now (out .exit) ≡ laid 0 (bytes03 r) (now (out .entry)) ⌝ }
 {
     let widths = [3, 3, 3, 3, 3, 4, 3, 1];
-    let numbers = [
-        r.v5,
-        r.v12,
-        r.v24,
-        r.m12,
-        r.v40,
-        r.acline,
-        r.mbstatus,
-        r.mbtap,
-    ];
+    let numbers = fields::of_03(r);
     pens::put_bytes(out, 0, b"$APA03");
     put_decimals(out, 6, &widths, &numbers);
     put_temperature(out, 37, r.temp);

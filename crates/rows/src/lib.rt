@@ -1,19 +1,20 @@
 // A frame, and what a call answers, as a row of numbers laid at the front of lent memory. The values
 // of a frame stand behind the row's first six numbers.
+use fields::of_02;
+use fields::of_03;
+use fields::of_05;
+use fields::of_status;
 use rules::Frame;
 use rules::Reading;
-use rules::Sentence02;
 use rules::Sentence03;
-use rules::Sentence05;
-use rules::Status;
 use stream_rules::Answer;
 ghost use mathlib.Core.Path.{_≡_};
 ghost use mathlib.Core.List.{[], _∷_, _++_, map};
 ghost use lib.IntN.{pos};
 ghost use lib.ListN.{length};
 ghost use Prim.Native.Nat.{_+_, _≤_};
-ghost use Rattle.rules.specs.Answers.{said, statusNumbers, numbers05, values};
-ghost use Rattle.rules.specs.Sentences.{numbers02, numbers03};
+ghost use Rattle.rules.specs.Answers.{said, values};
+ghost use Rattle.rules.specs.Sentences.{numbers03};
 ghost use Rattle.stream_rules.specs.Streams.{saidToFeed};
 ghost use Rattle.rows.specs.Rows.{frameKind, frameCode, counted, head, row, rowFed, rowAt, laidAt, LaysRow, Lays};
 
@@ -66,97 +67,14 @@ fn code(frame: Frame) -> u32
     }
 }
 
-// The values of a status report.
-fn put_status(numbers: &mut [i64], s: Status)
-    requires { ⌜ 26 ≤ length (now numbers) ⌝ }
-    ensures { λ _. ⌜ now (numbers .exit) ≡ laidAt 6 (map pos (statusNumbers s)) (now (numbers .entry)) ⌝ }
-{
-    let what = [
-        s.id as u32,
-        s.state as u32,
-        s.direction as u32,
-        s.bank as u32,
-        s.input as u32,
-        s.band as u32,
-        s.transmit as u32,
-        s.tuner as u32,
-        s.receive as u32,
-        s.level as u32,
-        s.watts,
-        s.swratu,
-        s.swrant,
-        s.volts,
-        s.amperes,
-        s.upper,
-        s.lower,
-        s.combiner,
-        s.warning as u32,
-        s.alarm as u32,
-    ];
-    put_numbers(numbers, 6, &what);
-}
-
-// The values of sentence 02.
-fn put_02(numbers: &mut [i64], r: Sentence02)
-    requires { ⌜ 19 ≤ length (now numbers) ⌝ }
-    ensures { λ _. ⌜ now (numbers .exit) ≡ laidAt 6 (map pos (numbers02 r)) (now (numbers .entry)) ⌝ }
-{
-    let what = [
-        r.pfwd,
-        r.swr,
-        r.pin,
-        r.vp,
-        r.ip,
-        r.gain,
-        r.vg,
-        r.ig,
-        r.band,
-        r.state,
-        r.fault,
-        r.key,
-        r.pep,
-    ];
-    put_numbers(numbers, 6, &what);
-}
-
 // The values of sentence 03; the last of them has a sign.
 fn put_03(numbers: &mut [i64], r: Sentence03)
     requires { ⌜ 15 ≤ length (now numbers) ⌝ }
     ensures { λ _. ⌜ now (numbers .exit) ≡ laidAt 6 (map pos (numbers03 r) ++ r .temp ∷ []) (now (numbers .entry)) ⌝ }
 {
-    let what = [
-        r.v5,
-        r.v12,
-        r.v24,
-        r.m12,
-        r.v40,
-        r.acline,
-        r.mbstatus,
-        r.mbtap,
-    ];
+    let what = of_03(r);
     put_numbers(numbers, 6, &what);
     numbers[14] = r.temp as i64;
-}
-
-// The values of sentence 05.
-fn put_05(numbers: &mut [i64], r: Sentence05)
-    requires { ⌜ 17 ≤ length (now numbers) ⌝ }
-    ensures { λ _. ⌜ now (numbers .exit) ≡ laidAt 6 (map pos (numbers05 r)) (now (numbers .entry)) ⌝ }
-{
-    let what = [
-        r.band as u32,
-        r.segment as u32,
-        r.memory as u32,
-        r.antenna as u32,
-        r.meter as u32,
-        r.control as u32,
-        r.options as u32,
-        r.state as u32,
-        r.wtime as u32,
-        r.tcmd as u32,
-        r.lcmd as u32,
-    ];
-    put_numbers(numbers, 6, &what);
 }
 
 // The frame's values, behind the six numbers in front of them.
@@ -165,10 +83,10 @@ fn put_values(numbers: &mut [i64], frame: Frame)
     ensures { λ _. ⌜ now (numbers .exit) ≡ laidAt 6 (values frame) (now (numbers .entry)) ⌝ }
 {
     match frame {
-        Frame::Status(s) => put_status(numbers, s),
-        Frame::Apa02(r) => put_02(numbers, r),
+        Frame::Status(s) => put_numbers(numbers, 6, &of_status(s)),
+        Frame::Apa02(r) => put_numbers(numbers, 6, &of_02(r)),
         Frame::Apa03(r) => put_03(numbers, r),
-        Frame::Apa05(r) => put_05(numbers, r),
+        Frame::Apa05(r) => put_numbers(numbers, 6, &of_05(r)),
         Frame::Ack(_) => {}
         Frame::Command(_) => {}
         Frame::Other(_) => {}

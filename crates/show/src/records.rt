@@ -1,4 +1,7 @@
 // The values of each record, in the order of document 01.
+use fields::of_02;
+use fields::of_03;
+use fields::of_05;
 use lines::number;
 use lines::spaced;
 use lines::text;
@@ -85,37 +88,14 @@ fn antennas(line: &mut [u8], at: usize, s: Status) -> usize
 pub(crate) fn sentence02(line: &mut [u8], at: usize, r: Sentence02) -> usize
     ensures { λ place. ⌜ Types (numberTexts (numbers02 r)) (now (line .entry)) at (now (line .exit)) place ⌝ }
 {
-    let row = [
-        r.pfwd,
-        r.swr,
-        r.pin,
-        r.vp,
-        r.ip,
-        r.gain,
-        r.vg,
-        r.ig,
-        r.band,
-        r.state,
-        r.fault,
-        r.key,
-        r.pep,
-    ];
+    let row = of_02(r);
     numbers(line, at, &row)
 }
 
 pub(crate) fn sentence03(line: &mut [u8], at: usize, r: Sentence03) -> usize
     ensures { λ place. ⌜ Types (numberTexts (numbers03 r) ++ temperatureTexts (r .temp)) (now (line .entry)) at (now (line .exit)) place ⌝ }
 {
-    let row = [
-        r.v5,
-        r.v12,
-        r.v24,
-        r.m12,
-        r.v40,
-        r.acline,
-        r.mbstatus,
-        r.mbtap,
-    ];
+    let row = of_03(r);
     let place = numbers(line, at, &row);
     temperature(line, place, r.temp)
 }
@@ -144,18 +124,6 @@ fn size(z: i32) -> u64
 pub(crate) fn sentence05(line: &mut [u8], at: usize, r: Sentence05) -> usize
     ensures { λ place. ⌜ Types (numberTexts (numbers05 r)) (now (line .entry)) at (now (line .exit)) place ⌝ }
 {
-    let row = [
-        r.band as u32,
-        r.segment as u32,
-        r.memory as u32,
-        r.antenna as u32,
-        r.meter as u32,
-        r.control as u32,
-        r.options as u32,
-        r.state as u32,
-        r.wtime as u32,
-        r.tcmd as u32,
-        r.lcmd as u32,
-    ];
+    let row = of_05(r);
     numbers(line, at, &row)
 }

@@ -15,6 +15,9 @@ use Rattle.alpha_writer.proofs.Sentence.{sentence-laid}
 use Rattle.alpha_writer.proofs.lay_03.Statement.{statement}
 use Rattle.alpha_writer.proofs.lay_03.Tie as tie
 
+of-03-requires : tie.Need-of-03-requires
+of-03-requires c κs = search needs
+
 slice-aggregate-put-bytes : tie.Need-slice-aggregate-put-bytes
 slice-aggregate-put-bytes c = search needs
 
@@ -30,12 +33,12 @@ slice-aggregate-put-decimals-2 c = search needs
 put-decimals-requires : tie.Need-put-decimals-requires
 unfolding numbers03 decimals commas withZeros
 put-decimals-requires c κs =
-    let start = c .before .before .before .before .before .before .before .before .before in
-    (refl, fit03 (start .args .r) (start .pre .0), omega arith)
+    let start = c .before .before .before .before .before .before .before .before .before .before in
+    rw (c .before .before .before .before .before .before .before .before .of-03 .ensures) (refl, fit03 (start .args .r) (start .pre .0), omega arith)
 
 put-temperature-requires : tie.Need-put-temperature-requires
 put-temperature-requires c κs =
-    let start = c .before .before .before .before .before .before .before .before .before .before .before .before .before .before in
+    let start = c .before .before .before .before .before .before .before .before .before .before .before .before .before .before .before in
     let small = temp03 (start .args .r) (start .pre .0) in
     rw (temperature-read (start .args .r .temp) small) (small, omega arith)
 
@@ -52,9 +55,9 @@ returns c =
     let c3 = c4 .before .before .before .before in
     let c2 = c3 .before .before .before .before .before in
     let c1 = c2 .before .before .before .before .before .before in
-    let start = c1 .before .before .before .before in
+    let start = c1 .before .before .before .before .before in
     sentence-laid 43 (ascii "APA03" ++ commas (texts03 (start .args .r))) refl
-    (row refl (c1 .put-bytes .ensures) then row refl (c2 .put-decimals .ensures) then row refl (rw (temperature-read (start .args .r .temp) (temp03 (start .args .r) (start .pre .0))) at (c3 .put-temperature .ensures)))
+    (row refl (c1 .put-bytes .ensures) then row refl (rw (c1 .before .before .before .of-03 .ensures) at (c2 .put-decimals .ensures)) then row refl (rw (temperature-read (start .args .r .temp) (temp03 (start .args .r) (start .pre .0))) at (c3 .put-temperature .ensures)))
     (c4 .put-seal .ensures) .laying
     (start .pre .1)
 
@@ -62,6 +65,7 @@ pub lay-03-spec : {M : Type 1} → statement M
 lay-03-spec =
     tie.close
     (tie.spec
+    of-03-requires
     slice-aggregate-put-bytes
     put-bytes-requires
     slice-aggregate-put-decimals

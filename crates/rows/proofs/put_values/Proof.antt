@@ -11,15 +11,27 @@ use Rattle.rows.proofs.put_values.Tie as tie
 enum-known-frame : tie.Need-enum-known-frame
 enum-known-frame c = search needs
 
-put-status-requires : tie.Need-put-status-requires
-put-status-requires c κs = rw (c .before .before .frame .given .1) at (c .before .before .before .before .pre)
+of-status-requires : tie.Need-of-status-requires
+of-status-requires c κs = search needs
+
+slice-aggregate-put-numbers : tie.Need-slice-aggregate-put-numbers
+slice-aggregate-put-numbers c = search needs
+
+put-numbers-requires : tie.Need-put-numbers-requires
+put-numbers-requires c κs = rw (c .before .of-status .ensures) (rw (c .before .before .before .before .frame .given .1) at (c .before .before .before .before .before .before .pre))
 
 enum-known-frame-2 : tie.Need-enum-known-frame-2
 enum-known-frame-2 c = search needs
 
-put-02-requires : tie.Need-put-02-requires
+of-02-requires : tie.Need-of-02-requires
+of-02-requires c κs = search needs
+
+slice-aggregate-put-numbers-2 : tie.Need-slice-aggregate-put-numbers-2
+slice-aggregate-put-numbers-2 c = search needs
+
+put-numbers-requires-2 : tie.Need-put-numbers-requires-2
 unfolding numbers02
-put-02-requires c κs = rw (c .before .before .frame2 .given .1) at (c .before .before .before .before .pre)
+put-numbers-requires-2 c κs = rw (c .before .of-02 .ensures) (rw (c .before .before .before .before .frame2 .given .1) at (c .before .before .before .before .before .before .pre))
 
 enum-known-frame-3 : tie.Need-enum-known-frame-3
 enum-known-frame-3 c = search needs
@@ -31,8 +43,14 @@ put-03-requires c κs = rw (c .before .before .frame3 .given .1) at (c .before .
 enum-known-frame-4 : tie.Need-enum-known-frame-4
 enum-known-frame-4 c = search needs
 
-put-05-requires : tie.Need-put-05-requires
-put-05-requires c κs = rw (c .before .before .frame4 .given .1) at (c .before .before .before .before .pre)
+of-05-requires : tie.Need-of-05-requires
+of-05-requires c κs = search needs
+
+slice-aggregate-put-numbers-3 : tie.Need-slice-aggregate-put-numbers-3
+slice-aggregate-put-numbers-3 c = search needs
+
+put-numbers-requires-3 : tie.Need-put-numbers-requires-3
+put-numbers-requires-3 c κs = rw (c .before .of-05 .ensures) (rw (c .before .before .before .before .frame4 .given .1) at (c .before .before .before .before .before .before .pre))
 
 enum-told : tie.Need-enum-told
 enum-told c = search needs
@@ -47,13 +65,13 @@ same-length : tie.Need-same-length
 same-length c = search needs
 
 returns : tie.Need-returns
-returns c = c .before .put-status .ensures ∙ rw (c .before .before .before .before .frame .given .1)
+returns c = c .before .put-numbers .ensures ∙ rw (c .before .before .before .of-status .ensures, c .before .before .before .before .before .before .frame .given .1)
 
 same-length-2 : tie.Need-same-length-2
 same-length-2 c = search needs
 
 returns-2 : tie.Need-returns-2
-returns-2 c = c .before .put-02 .ensures ∙ rw (c .before .before .before .before .frame2 .given .1)
+returns-2 c = c .before .put-numbers2 .ensures ∙ rw (c .before .before .before .of-02 .ensures, c .before .before .before .before .before .before .frame2 .given .1)
 
 same-length-3 : tie.Need-same-length-3
 same-length-3 c = search needs
@@ -65,7 +83,7 @@ same-length-4 : tie.Need-same-length-4
 same-length-4 c = search needs
 
 returns-4 : tie.Need-returns-4
-returns-4 c = c .before .put-05 .ensures ∙ rw (c .before .before .before .before .frame4 .given .1)
+returns-4 c = c .before .put-numbers3 .ensures ∙ rw (c .before .before .before .of-05 .ensures, c .before .before .before .before .before .before .frame4 .given .1)
 
 returns-5 : tie.Need-returns-5
 returns-5 c = sym (rw (c .enum-told .given .1) (none-laid 6 (now (c .before .before .args .numbers))))
@@ -81,13 +99,19 @@ put-values-spec =
     tie.close
     (tie.spec
     enum-known-frame
-    put-status-requires
+    of-status-requires
+    slice-aggregate-put-numbers
+    put-numbers-requires
     enum-known-frame-2
-    put-02-requires
+    of-02-requires
+    slice-aggregate-put-numbers-2
+    put-numbers-requires-2
     enum-known-frame-3
     put-03-requires
     enum-known-frame-4
-    put-05-requires
+    of-05-requires
+    slice-aggregate-put-numbers-3
+    put-numbers-requires-3
     enum-told
     enum-told-2
     enum-told-3

@@ -1,9 +1,11 @@
 -- `show::records::sentence02` meets its contract: the row holds the record's numbers.
 -- Assumes nothing.
 use borrow.Author.Needs.{needs}
-use Rattle.rules.specs.Sentences.{numbers02}
 use Rattle.show.proofs.records.sentence02.Statement.{statement}
 use Rattle.show.proofs.records.sentence02.Tie as tie
+
+of-02-requires : tie.Need-of-02-requires
+of-02-requires c κs = search needs
 
 slice-aggregate-numbers : tie.Need-slice-aggregate-numbers
 slice-aggregate-numbers c = search needs
@@ -15,8 +17,7 @@ same-length : tie.Need-same-length
 same-length c = search needs
 
 returns : tie.Need-returns
-unfolding numbers02
-returns c = c .before .before .numbers .ensures
+returns c = rw (c .before .before .before .before .before .of-02 .ensures) at (c .before .before .numbers .ensures)
 
 pub sentence02-spec : {M : Type 1} → statement M
-sentence02-spec = tie.close (tie.spec slice-aggregate-numbers numbers-requires same-length returns)
+sentence02-spec = tie.close (tie.spec of-02-requires slice-aggregate-numbers numbers-requires same-length returns)
