@@ -11,9 +11,9 @@ use lib.Seq.{drop-drop}
 use Rattle.rules.specs.Bytes.{part, between, every, total}
 use Rattle.rules.specs.Status.{cut}
 use Rattle.rules.specs.Sentences.{commas}
-use Rattle.laws.proofs.Bytes.{both, both-pass, between-bounds}
-use Rattle.leaves.proofs.Steps.{at as from-place}
-use Rattle.leaves.specs.Leaves.{inBounds}
+use Rattle.frame_laws.proofs.Bytes.{both, both-pass, between-bounds}
+use Rattle.texts.proofs.Steps.{at as from-place}
+use Rattle.texts.specs.Parts.{inBounds}
 
 -- what has one bound only stands there
 exact : (name l m bs : List ℕ) → length name ≤ length bs → inBounds (name ++ l) (name ++ m) bs ≡ true

@@ -14,9 +14,9 @@ use Rattle.rules.specs.Numbers.{isDigit}
 use Rattle.rules.specs.Sentences.{isPayload, isPayloadByte, isNamed, isSentence, payloadOf, checkOf, gives, numberOf, textsOf}
 use Rattle.rules.specs.Answers.{readTexts, readFamily2, notGood}
 use Rattle.rules.specs.declared.Reading.the-variants.{Refused}
-use Rattle.laws.proofs.Bytes.{both, tests, answer, same-eq, eq-same, between-bounds, bounds-between}
-use Rattle.laws.proofs.Sentences.{sentence-payload}
-use Rattle.leaves.proofs.Steps.{at as from-place}
+use Rattle.frame_laws.proofs.Bytes.{both, tests, answer, same-eq, eq-same, between-bounds, bounds-between}
+use Rattle.frame_laws.proofs.Sentences.{sentence-payload}
+use Rattle.texts.proofs.Steps.{at as from-place}
 use Rattle.alpha.specs.Payloads.{isChecked}
 
 pub no-sentence : (bs : List ℕ) → isSentence bs ≡ false → Refused notGood ≡ readFamily2 bs

@@ -12,12 +12,12 @@ use Rattle.rules.specs.Bytes.{ascii, part, every, total}
 use Rattle.rules.specs.Numbers.{isDigit, decimalFrom, decimal, withZeros}
 use Rattle.rules.specs.Status.{cut}
 use Rattle.rules.specs.Sentences.{areDecimals, widths02, numbers02, inRange02, is02, sentence02}
-use Rattle.laws.proofs.Bytes.{both, tests, both-pass, between-bounds, bounds-between, every-weaker}
-use Rattle.laws.proofs.Lists.{part-elements}
-use Rattle.laws.proofs.Sentences.{isTextByte, digits-text, payload}
-use Rattle.laws.proofs.SentenceFields.{fields-fit}
+use Rattle.frame_laws.proofs.Bytes.{both, tests, both-pass, between-bounds, bounds-between, every-weaker}
+use Rattle.frame_laws.proofs.Lists.{part-elements}
+use Rattle.frame_laws.proofs.Sentences.{isTextByte, digits-text, payload}
+use Rattle.frame_laws.proofs.SentenceFields.{fields-fit}
 use Rattle.alpha.specs.Fields.{Text}
-use Rattle.leaves.specs.Leaves.{inBounds}
+use Rattle.texts.specs.Parts.{inBounds}
 use Rattle.alpha.specs.Payloads.{isGoodPayload}
 use Rattle.alpha.proofs.Rows.{each}
 use Rattle.alpha.proofs.Payloads.{as02}

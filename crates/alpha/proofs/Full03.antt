@@ -12,12 +12,12 @@ use Rattle.rules.specs.Bytes.{ascii, oneOf, part, between, every, total}
 use Rattle.rules.specs.Numbers.{isDigit, decimal, withZeros}
 use Rattle.rules.specs.Status.{cut}
 use Rattle.rules.specs.Sentences.{isPayloadByte, commas, areDecimals, isTemperature, widths03, numbers03, inRange03, is03, sentence03}
-use Rattle.laws.proofs.Bytes.{both, tests, answer, both-pass, between-bounds, bounds-between, every-cons, every-append, every-weaker, one-of-these}
-use Rattle.laws.proofs.Lists.{elements, last}
-use Rattle.laws.proofs.Sentences.{isTextByte, digits-text, payload}
-use Rattle.laws.proofs.SentenceFields.{fields-fit, temperature-bound}
+use Rattle.frame_laws.proofs.Bytes.{both, tests, answer, both-pass, between-bounds, bounds-between, every-cons, every-append, every-weaker, one-of-these}
+use Rattle.frame_laws.proofs.Lists.{elements, last}
+use Rattle.frame_laws.proofs.Sentences.{isTextByte, digits-text, payload}
+use Rattle.frame_laws.proofs.SentenceFields.{fields-fit, temperature-bound}
 use Rattle.alpha.specs.Fields.{Text}
-use Rattle.leaves.specs.Leaves.{inBounds}
+use Rattle.texts.specs.Parts.{inBounds}
 use Rattle.alpha.specs.Payloads.{isGoodPayload}
 use Rattle.alpha.proofs.Rows.{each}
 use Rattle.alpha.proofs.Payloads.{as03}

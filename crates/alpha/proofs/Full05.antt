@@ -12,12 +12,12 @@ use Rattle.rules.specs.Bytes.{ascii, part, between, every, total}
 use Rattle.rules.specs.Numbers.{withZeros, isHexDigit}
 use Rattle.rules.specs.Status.{cut}
 use Rattle.rules.specs.Sentences.{isHexField, is05}
-use Rattle.laws.proofs.Bytes.{both-pass, either, between-bounds, every-cons, every-split, every-take, every-drop}
-use Rattle.laws.proofs.Fields.{cut-widths}
-use Rattle.laws.proofs.Sentences.{payload}
-use Rattle.laws.proofs.SentenceFields.{hexes-text}
+use Rattle.frame_laws.proofs.Bytes.{both-pass, either, between-bounds, every-cons, every-split, every-take, every-drop}
+use Rattle.frame_laws.proofs.Fields.{cut-widths}
+use Rattle.frame_laws.proofs.Sentences.{payload}
+use Rattle.frame_laws.proofs.SentenceFields.{hexes-text}
 use Rattle.alpha.specs.Fields.{Text}
-use Rattle.leaves.specs.Leaves.{inBounds}
+use Rattle.texts.specs.Parts.{inBounds}
 use Rattle.alpha.specs.Payloads.{isGoodPayload, outsideGap}
 use Rattle.alpha.proofs.Payloads.{as05}
 use Rattle.alpha.proofs.Bounds.{rowOf, Formed, formed}

@@ -13,10 +13,10 @@ use Rattle.rules.specs.Numbers.{isDigit, decimalFrom, decimal}
 use Rattle.rules.specs.Status.{cut}
 use Rattle.rules.specs.Sentences.{isDecimal, areDecimals}
 use Rattle.rules.specs.Answers.{isGood, readTexts}
-use Rattle.laws.proofs.Bytes.{both, both-left, both-pass, between-bounds}
-use Rattle.laws.proofs.Lists.{part-elements}
-use Rattle.laws.proofs.Fields.{cut-widths}
-use Rattle.laws.proofs.Sentences.{isTextByte, payload, payload-texts, payload-number}
+use Rattle.frame_laws.proofs.Bytes.{both, both-left, both-pass, between-bounds}
+use Rattle.frame_laws.proofs.Lists.{part-elements}
+use Rattle.frame_laws.proofs.Fields.{cut-widths}
+use Rattle.frame_laws.proofs.Sentences.{isTextByte, payload, payload-texts, payload-number}
 use Rattle.alpha.specs.Fields.{Text}
 use Rattle.alpha.specs.Payloads.{isGoodPayload}
 

@@ -15,12 +15,12 @@ use Rattle.rules.specs.Sentences.{nothingOrComma, gives, sum1, sum2, numberOf, 
 use Rattle.rules.specs.Answers.{readTexts}
 use Rattle.rules.specs.declared.Frame.the-variants.{Apa02, Apa03, Apa05, Other}
 use Rattle.rules.specs.declared.Reading.the-variants.{Good}
-use Rattle.laws.proofs.Bytes.{one-by-one}
-use Rattle.numbers.specs.Fields.{digitsIn}
-use Rattle.leaves.proofs.Steps.{at as from-place}
-use Rattle.hex.specs.Hex.{pairIn}
-use Rattle.hex.specs.declared.HexByte.{HexByte}
-use Rattle.hex.proofs.Digits.{pair-gives}
+use Rattle.frame_laws.proofs.Bytes.{one-by-one}
+use Rattle.texts.specs.Numbers.{digitsIn}
+use Rattle.texts.proofs.Steps.{at as from-place}
+use Rattle.checksums.specs.Hex.{pairIn}
+use Rattle.checksums.specs.declared.hexadecimal.HexByte.{HexByte}
+use Rattle.checksums.proofs.Digits.{pair-gives}
 use Rattle.alpha.specs.Fields.{Text}
 use Rattle.alpha.specs.Held.{held}
 use Rattle.alpha.proofs.Texts.{as-wide, counted, count-below}

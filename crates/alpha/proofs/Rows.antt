@@ -12,7 +12,7 @@ use lib.Seq.{drop-cons, drop-length, drop-drop, getD-drop, getD-set-same, getD-s
 use borrow.Author.Count.{below-none, below-more}
 use Rattle.rules.specs.Bytes.{every}
 use Rattle.rules.specs.Sentences.{behindCommas, isDecimal}
-use Rattle.laws.proofs.Bytes.{every-split}
+use Rattle.frame_laws.proofs.Bytes.{every-split}
 use Rattle.alpha.specs.Fields.{Text, begins, FieldAt, RowAt}
 
 -- k fields are read, and the next one's comma stands at place a

@@ -18,7 +18,7 @@ use Rattle.rules.specs.declared.Sentence03.{Sentence03}
 use Rattle.rules.specs.declared.Sentence05.{Sentence05}
 use Rattle.rules.specs.declared.Frame.{Frame}
 use Rattle.rules.specs.declared.Reading.the-variants.{Good, Refused}
-use Rattle.commas.proofs.Commas.{at-end, at-field}
+use Rattle.texts.proofs.FieldEnds.{at-end, at-field}
 use Rattle.alpha.specs.Fields.{Text, firstIs, begins, hexValue, FieldAt, RowAt}
 use Rattle.alpha.specs.Held.{held}
 

@@ -16,11 +16,11 @@ use borrow.Author.Tests.{eq-eqb, ne-eqb}
 use Rattle.rules.specs.Bytes.{ascii, oneOf, part, every}
 use Rattle.rules.specs.Numbers.{isDigit, decimal, decimalFrom}
 use Rattle.rules.specs.Sentences.{isDecimal, isTemperature, temperature, whole, tenth}
-use Rattle.numbers.specs.Fields.{digitsIn}
-use Rattle.numbers.specs.declared.Number.{Number}
-use Rattle.laws.proofs.Bytes.{both}
-use Rattle.laws.proofs.Numbers.{decimal-from}
-use Rattle.commas.specs.Commas.{upTo, endAt}
+use Rattle.texts.specs.Numbers.{digitsIn}
+use Rattle.texts.specs.declared.numbers.Number.{Number}
+use Rattle.frame_laws.proofs.Bytes.{both}
+use Rattle.frame_laws.proofs.Numbers.{decimal-from}
+use Rattle.texts.specs.Commas.{upTo, endAt}
 use Rattle.alpha.specs.Fields.{FieldAt}
 use Rattle.alpha.specs.Values.{degreesIn}
 use Rattle.alpha.specs.declared.fields.Degrees.{Degrees}

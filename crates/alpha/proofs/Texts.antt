@@ -12,15 +12,15 @@ use borrow.Author.Tests.{le-leb, lt-leb, ne-eqb}
 use Rattle.rules.specs.Bytes.{part, between, every}
 use Rattle.rules.specs.Numbers.{isDigit, decimal, isHexDigit, hexNumber}
 use Rattle.rules.specs.Sentences.{isDecimal, isHexField}
-use Rattle.laws.proofs.Bytes.{both}
-use Rattle.laws.proofs.Numbers.{decimal-below}
-use Rattle.numbers.specs.Fields.{digitsIn}
-use Rattle.numbers.specs.declared.Number.{Number}
-use Rattle.leaves.proofs.Steps.{at as from-place}
-use Rattle.hex.specs.Hex.{pairIn}
-use Rattle.hex.specs.declared.HexByte.{HexByte}
-use Rattle.commas.specs.Commas.{upTo, textAt, endAt}
-use Rattle.commas.proofs.Commas.{at-end, at-field, end-within, text-length}
+use Rattle.frame_laws.proofs.Bytes.{both}
+use Rattle.frame_laws.proofs.Numbers.{decimal-below}
+use Rattle.texts.specs.Numbers.{digitsIn}
+use Rattle.texts.specs.declared.numbers.Number.{Number}
+use Rattle.texts.proofs.Steps.{at as from-place}
+use Rattle.checksums.specs.Hex.{pairIn}
+use Rattle.checksums.specs.declared.hexadecimal.HexByte.{HexByte}
+use Rattle.texts.specs.Commas.{upTo, textAt, endAt}
+use Rattle.texts.proofs.FieldEnds.{at-end, at-field, end-within, text-length}
 use Rattle.alpha.specs.Fields.{Text, FieldAt, hexValue}
 
 module _ {A : Type 0} {test : Text → Bool} {value : Text → A} {r : List ℕ} {a : ℕ} where

@@ -33,11 +33,11 @@ fn decimal_at(r: &[u8], a: usize, w: usize) -> DecimalField
         return none;
     }
     let from = a + 1;
-    let end = commas::to_comma(r, from);
+    let end = texts::to_comma(r, from);
     if w < end - from {
         return none;
     }
-    let n = numbers::digits(&r[from..end]);
+    let n = texts::digits(&r[from..end]);
     DecimalField {
         good: n.good,
         count: n.count,
@@ -100,11 +100,11 @@ fn hex_at(r: &[u8], a: usize) -> HexField
         return none;
     }
     let from = a + 1;
-    let end = commas::to_comma(r, from);
+    let end = texts::to_comma(r, from);
     if end - from != 2 {
         return none;
     }
-    let pair = hex::hex_pair(r[from], r[from + 1]);
+    let pair = checksums::hex_pair(r[from], r[from + 1]);
     HexField {
         good: pair.good,
         value: pair.value,
@@ -167,9 +167,9 @@ fn degrees_in(t: &[u8]) -> Degrees
     if 6 < n {
         return none;
     }
-    let whole = numbers::digits(&t[1..n - 2]);
-    let tenth = numbers::digits(&t[n - 1..]);
-    let sign = leaves::one_of(b"+-", t[0]);
+    let whole = texts::digits(&t[1..n - 2]);
+    let tenth = texts::digits(&t[n - 1..]);
+    let sign = texts::one_of(b"+-", t[0]);
     if !(sign & whole.good & (t[n - 2] == b'.') & tenth.good) {
         return none;
     }
@@ -205,7 +205,7 @@ pub(crate) fn degrees_at(r: &[u8], a: usize) -> DegreesField
         };
     }
     let from = a + 1;
-    let end = commas::to_comma(r, from);
+    let end = texts::to_comma(r, from);
     let degrees = degrees_in(&r[from..end]);
     DegreesField {
         good: degrees.good,

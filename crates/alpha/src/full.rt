@@ -1,7 +1,7 @@
 // Payloads at full width, each field with as many bytes as the writer gives it: one pass over bounds
 // tells that they are good. The temperature `-000.0` is at full width too, though the writer never
 // writes it. Of any other payload nothing is said here.
-use leaves::within;
+use texts::within;
 ghost use mathlib.Core.Path.{_≡_};
 ghost use mathlib.Core.Bool.{true};
 ghost use lib.ListN.{length};
@@ -26,7 +26,7 @@ fn is_full02(p: &[u8]) -> bool
     requires { ⌜ length (now p) ≡ 57 ⌝ }
     ensures { λ r. ⌜ (r ≡ true → isGoodPayload (now (p .entry)) ≡ true) ⌝ }
 {
-    let grid = leaves::wide(p[35]) * 100 + leaves::wide(p[36]) * 10 + leaves::wide(p[37]);
+    let grid = texts::wide(p[35]) * 100 + texts::wide(p[36]) * 10 + texts::wide(p[37]);
     within(
         b"APA02,00000,000,0000,0000,0000,000,000,000,0,0,00,0,00000",
         b"APA02,99999,999,9999,9999,9999,999,999,999,9,9,99,9,99999",

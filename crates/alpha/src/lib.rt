@@ -1,9 +1,9 @@
 // Reads one sentence of the Alpha 9500, as a whole.
 mod fields;
 mod full;
-mod records;
+mod numbered;
 
-use records::NOT_GOOD;
+use crate::numbered::NOT_GOOD;
 use rules::Frame;
 use rules::Reading;
 ghost use mathlib.Core.Path.{_≡_};
@@ -74,8 +74,8 @@ fn is_named(p: &[u8]) -> bool
     requires { ⌜ 5 ≤ length (now p) ⌝ }
     ensures { λ r. ⌜ r ≡ isNamed (now (p .entry)) ⌝ }
 {
-    let letters = leaves::same_bytes(&p[..3], b"APA");
-    let number = numbers::digits(&p[3..5]);
+    let letters = texts::same_bytes(&p[..3], b"APA");
+    let number = texts::digits(&p[3..5]);
     if p.len() == 5 {
         return letters & number.good;
     }
@@ -87,8 +87,8 @@ fn is_checked(p: &[u8], check: &[u8]) -> bool
     requires { ⌜ length (now check) ≡ 4 ⌝ }
     ensures { λ r. ⌜ r ≡ isChecked (now (check .entry)) (now (p .entry)) ⌝ }
 {
-    let sums = fletcher::fletcher(p);
-    let pairs = hex::hex_pairs(check[0], check[1], check[2], check[3]);
+    let sums = checksums::fletcher(p);
+    let pairs = checksums::hex_pairs(check[0], check[1], check[2], check[3]);
     let first = pairs.first;
     let second = pairs.second;
     sums.allowed
@@ -103,13 +103,13 @@ fn read_payload(p: &[u8]) -> Reading
     requires { ⌜ (5 ≤ length (now p)) × (every isDigit (part 3 2 (now p)) ≡ true) ⌝ }
     ensures { λ r. ⌜ r ≡ readTexts (numberOf (now (p .entry))) (textsOf (now (p .entry))) ⌝ }
 {
-    let number = numbers::digits(&p[3..5]);
+    let number = texts::digits(&p[3..5]);
     let n = number.count;
     let r = &p[5..];
     match n {
-        2 => records::read02(r),
-        3 => records::read03(r),
-        5 => records::read05(r),
+        2 => numbered::read02(r),
+        3 => numbered::read03(r),
+        5 => numbered::read05(r),
         _ => Reading::Good(Frame::Other(n as u8)),
     }
 }

@@ -13,8 +13,8 @@ use lib.ListN.{length, drop, getD, length-append, drop-of-length-le}
 use lib.Seq.{drop-cons}
 use Rattle.rules.specs.Numbers.{withZeros}
 use Rattle.rules.specs.Sentences.{fit, decimals, commas}
-use Rattle.laws.proofs.Bytes.{both}
-use Rattle.laws.proofs.Numbers.{zeros-length}
+use Rattle.frame_laws.proofs.Bytes.{both}
+use Rattle.frame_laws.proofs.Numbers.{zeros-length}
 use Rattle.pens.specs.Pens.{laid, fieldIn}
 use Rattle.pens.proofs.Laid.{laid-behind, length-laid, laid-none}
 use Rattle.pens.proofs.Rows.{zeros-row}

@@ -10,7 +10,7 @@ use Rattle.rules.specs.Sentences.{fit, widths02, numbers02, inRange02, widths03
 use Rattle.rules.specs.declared.Sentence02.{Sentence02}
 use Rattle.rules.specs.declared.Sentence03.{Sentence03}
 use Rattle.rules.specs.declared.Sentence05.{Sentence05}
-use Rattle.laws.proofs.Bytes.{tests}
+use Rattle.frame_laws.proofs.Bytes.{tests}
 
 pub fit02 : (r : Sentence02) → inRange02 r ≡ true → fit widths02 (numbers02 r) ≡ true
 unfolding inRange02

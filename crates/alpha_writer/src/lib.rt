@@ -36,7 +36,7 @@ fn put_seal(out: &mut [u8], n: usize)
     ensures { λ _. ⌜ now (out .exit) ≡ laid (n + 1) (seal (part 1 n (now (out .entry)))) (now (out .entry)) ⌝ }
 {
     let end = n + 1;
-    let sums = fletcher::fletcher(&out[1..end]);
+    let sums = checksums::fletcher(&out[1..end]);
     pens::put_byte(out, end, b'*');
     pens::put_hex(out, end + 1, sums.sum2);
     pens::put_hex(out, end + 3, sums.sum1);
@@ -48,7 +48,7 @@ fn lay_02(r: Sentence02, out: &mut [u8])
     ensures { λ _. ⌜ now (out .exit) ≡ laid 0 (bytes02 r) (now (out .entry)) ⌝ }
 {
     let widths = [5, 3, 4, 4, 4, 3, 3, 3, 1, 1, 2, 1, 5];
-    let numbers = fields::of_02(r);
+    let numbers = records::of_02(r);
     pens::put_bytes(out, 0, b"$APA02");
     put_decimals(out, 6, &widths, &numbers);
     put_seal(out, 57);
@@ -58,7 +58,7 @@ fn lay_02(r: Sentence02, out: &mut [u8])
 pub fn write_02(r: Sentence02, out: &mut [u8]) -> Written
     ensures { λ w. ⌜ Writes (inRange02 r) noRecord (bytes02 r) (now (out .entry)) w (now (out .exit)) ⌝ }
 {
-    if !ranges::in_range02(r) {
+    if !records::in_range02(r) {
         return Written::Refused(3);
     }
     if out.len() < 63 {
@@ -108,7 +108,7 @@ fn lay_03(r: Sentence03, out: &mut [u8])
     ensures { λ _. ⌜ now (out .exit) ≡ laid 0 (bytes03 r) (now (out .entry)) ⌝ }
 {
     let widths = [3, 3, 3, 3, 3, 4, 3, 1];
-    let numbers = fields::of_03(r);
+    let numbers = records::of_03(r);
     pens::put_bytes(out, 0, b"$APA03");
     put_decimals(out, 6, &widths, &numbers);
     put_temperature(out, 37, r.temp);
@@ -119,7 +119,7 @@ fn lay_03(r: Sentence03, out: &mut [u8])
 pub fn write_03(r: Sentence03, out: &mut [u8]) -> Written
     ensures { λ w. ⌜ Writes (inRange03 r) noRecord (bytes03 r) (now (out .entry)) w (now (out .exit)) ⌝ }
 {
-    if !ranges::in_range03(r) {
+    if !records::in_range03(r) {
         return Written::Refused(3);
     }
     if out.len() < 49 {
@@ -174,7 +174,7 @@ fn lay_05(r: Sentence05, out: &mut [u8])
 pub fn write_05(r: Sentence05, out: &mut [u8]) -> Written
     ensures { λ w. ⌜ Writes (inRange05 r) noRecord (bytes05 r) (now (out .entry)) w (now (out .exit)) ⌝ }
 {
-    if !ranges::in_range05(r) {
+    if !records::in_range05(r) {
         return Written::Refused(3);
     }
     if out.len() < 32 {

@@ -15,7 +15,7 @@ use Rattle.stream_rules.specs.Streams.{fresh}
 use Rattle.stream_rules.specs.Lister.{listed, listLeft}
 use Rattle.stream_rules.specs.declared.Listed.the-variants.{Refused as NotListed}
 use Rattle.stream_laws.proofs.States.{fresh-1}
-use Rattle.finds.specs.Finds.{nothing, nextIn}
+use Rattle.captures.specs.Finds.{nothing, nextIn}
 
 abbrev NoFamily : ℕ → Type 0
 NoFamily n = (eqb n 1 ≡ false) × (eqb n 2 ≡ false) × (eqb n 3 ≡ false)

@@ -10,7 +10,7 @@ use denote.Builtin.{u32}
 use Rattle.stream_rules.proofs.Reader as R
 use Rattle.amp.specs.declared.After.{After}
 use Rattle.amp.proofs.After as T
-use Rattle.lent.proofs.Lent.{vals, as-spelt}
+use Rattle.stream.proofs.Behind.{vals, as-spelt}
 
 pub read-back : (r : After) (v : Val) → Is T.the-row r (v ∷ []) → Is R.the-row (r .reader) (vals (r .reader))
 read-back r v is = as-spelt (r .reader) (is .0 .0) (is .1 .1 .0)

@@ -4,7 +4,7 @@ use Prim.Native.Nat.{ℕ}
 use mathlib.Core.Path.{_≡_, sym, _∙_}
 use mathlib.Core.List.{List}
 use lib.IntN.{ℤ}
-use Rattle.laws.proofs.Single.{one-answer}
+use Rattle.frame_laws.proofs.Single.{one-answer}
 use Rattle.stream_rules.specs.Lister.{order}
 use Rattle.stream_rules.specs.declared.Reader.{Reader}
 use Rattle.rows.proofs.Single.{lays-single}

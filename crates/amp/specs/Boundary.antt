@@ -16,7 +16,7 @@ use Rattle.stream_rules.specs.declared.Listed.{Listed}
 use Rattle.stream_rules.specs.declared.Listed.the-variants.{Count, Refused}
 use Rattle.stream_rules.specs.declared.Order.{Order}
 use Rattle.stream_rules.specs.declared.Order.the-variants.{Earlier, Later, Equal, CannotSay}
-use Rattle.finds.specs.Finds.{nextIn}
+use Rattle.captures.specs.Finds.{nextIn}
 use Rattle.rows.specs.Rows.{rowRead, refusalOf, Lays}
 
 -- A fresh reader; where there is no such family, the reader is as it was.

@@ -15,8 +15,8 @@ ghost use Rattle.stream_rules.specs.Lister.{order};
 ghost use Rattle.rules.specs.Answers.{noRoom};
 ghost use Rattle.rules.specs.Sentences.{enableBytes};
 ghost use Rattle.rows.specs.Rows.{refusalOf};
-ghost use Rattle.given.specs.Given.{WritesNumbers, WritesGiven};
-ghost use Rattle.fed_rows.specs.FedRows.{FeedsRow};
+ghost use Rattle.row_writer.specs.Given.{WritesNumbers, WritesGiven};
+ghost use Rattle.row_stream.specs.FedRows.{FeedsRow};
 ghost use Rattle.amp.specs.Boundary.{Freshens, Closes, ReadsRow, ListsStarts, Nexts, orderNumber};
 
 // A reader after a call, and the number that the call gives.
@@ -95,7 +95,7 @@ pub extern "C" fn amp_fresh(reader: &mut Reader, family: u32) -> u32
 pub extern "C" fn amp_feed(reader: &mut Reader, offered: &[u8], numbers: &mut [i64]) -> u32
     ensures { λ r. ⌜ FeedsRow (now (reader .entry)) (now (offered .entry)) (now (numbers .entry)) r (now (reader .exit)) (now (numbers .exit)) ⌝ }
 {
-    let counts = fed_rows::feed_row(
+    let counts = row_stream::feed_row(
         reader.family,
         reader.closed,
         reader.count,
@@ -127,7 +127,7 @@ pub extern "C" fn amp_close(reader: &mut Reader) -> u32
 pub extern "C" fn amp_read(family: u32, bytes: &[u8], numbers: &mut [i64]) -> u32
     ensures { λ r. ⌜ ReadsRow family (now (bytes .entry)) (now (numbers .entry)) r (now (numbers .exit)) ⌝ }
 {
-    frame_rows::read_row(family_byte(family), bytes, 0, 0, 0, numbers)
+    rows::read_row(family_byte(family), bytes, 0, 0, 0, numbers)
 }
 
 // The starts of the frames in a capture, and how many there are.
@@ -140,7 +140,7 @@ pub extern "C" fn amp_list(
 ) -> u32
     ensures { λ r. ⌜ ListsStarts family (now (capture .entry)) (now (starts .entry)) (now (count .entry)) r (now (starts .exit)) (now (count .exit)) ⌝ }
 {
-    match lister::list_frames(family_byte(family), capture, starts) {
+    match captures::list_frames(family_byte(family), capture, starts) {
         Listed::Count(n) => {
             *count = n;
             0
@@ -160,7 +160,7 @@ pub extern "C" fn amp_next(
 ) -> usize
     ensures { λ r. ⌜ Nexts family (now (capture .entry)) place reports (now (start .entry)) r (now (start .exit)) ⌝ }
 {
-    let span = finds::find(family_byte(family), capture, place, reports != 0);
+    let span = captures::find(family_byte(family), capture, place, reports != 0);
     let size = span.size;
     if size != 0 {
         *start = span.start;
@@ -173,7 +173,7 @@ pub extern "C" fn amp_next(
 pub extern "C" fn amp_stamp_order(a: u32, b: u32) -> u32
     ensures { λ r. ⌜ r ≡ orderNumber (order a b) ⌝ }
 {
-    match stamps::stamp_order(a, b) {
+    match stream::stamp_order(a, b) {
         Order::Earlier => 1,
         Order::Later => 2,
         Order::Equal => 3,
@@ -192,7 +192,7 @@ pub extern "C" fn amp_write(
 ) -> u32
     ensures { λ r. ⌜ WritesGiven kind code (now (values .entry)) (now (out .entry)) (now (length .entry)) r (now (out .exit)) (now (length .exit)) ⌝ }
 {
-    given::write_given(kind, code, values, out, length)
+    row_writer::write_given(kind, code, values, out, length)
 }
 
 // Writes the bytes that enable the Alpha, and tells their length.
@@ -200,5 +200,5 @@ pub extern "C" fn amp_write(
 pub extern "C" fn amp_write_enable(out: &mut [u8], length: &mut usize) -> u32
     ensures { λ r. ⌜ WritesNumbers true noRoom enableBytes (now (out .entry)) (now (length .entry)) r (now (out .exit)) (now (length .exit)) ⌝ }
 {
-    given::write_enable_given(out, length)
+    row_writer::write_enable_given(out, length)
 }

@@ -8,11 +8,11 @@ use mathlib.Core.List.{List}
 use lib.ListN.{length}
 use denote.Ref.{RefT, ptr, now}
 use Rattle.rules.specs.Bytes.{part, PartOf}
-use Rattle.leaves.specs.Leaves.{placeIn}
-use Rattle.finds.specs.Finds.{nextIn}
-use Rattle.finds.specs.declared.Span.{Span}
-use Rattle.finds.proofs.Spans.{spanned, unmoved as still}
-use Rattle.captures.specs.declared.CaptureReader.{CaptureReader}
+use Rattle.texts.specs.Parts.{placeIn}
+use Rattle.captures.specs.Finds.{nextIn}
+use Rattle.captures.specs.declared.spans.Span.{Span}
+use Rattle.captures.proofs.Standing.{spanned, unmoved as still}
+use Rattle.captures.specs.declared.walks.CaptureReader.{CaptureReader}
 use Rattle.captures.specs.Captures.{PartAt, GivesAt, Gives}
 
 -- what `text` promises of the part that a span is

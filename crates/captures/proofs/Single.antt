@@ -6,8 +6,8 @@ use mathlib.Core.Path.{_≡_}
 use mathlib.Core.Bool.{Bool}
 use mathlib.Core.List.{List}
 use denote.Ref.{RefT, ptr, now}
-use Rattle.laws.proofs.Single.{one-answer, part-single}
-use Rattle.captures.specs.declared.CaptureReader.{CaptureReader}
+use Rattle.frame_laws.proofs.Single.{one-answer, part-single}
+use Rattle.captures.specs.declared.walks.CaptureReader.{CaptureReader}
 use Rattle.captures.specs.Captures.{GivesAt, Gives}
 
 module _ (family : ℕ) (reports : Bool) where

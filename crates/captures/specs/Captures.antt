@@ -6,9 +6,9 @@ use mathlib.Core.Bool.{Bool}
 use mathlib.Core.List.{List}
 use denote.Ref.{RefT, now}
 use Rattle.rules.specs.Bytes.{part, PartOf}
-use Rattle.finds.specs.Finds.{nextIn}
-use Rattle.finds.specs.declared.Span.{Span}
-use Rattle.captures.specs.declared.CaptureReader.{CaptureReader}
+use Rattle.captures.specs.Finds.{nextIn}
+use Rattle.captures.specs.declared.spans.Span.{Span}
+use Rattle.captures.specs.declared.walks.CaptureReader.{CaptureReader}
 
 -- the part of a capture that a span is
 abbrev pub PartAt : RefT (List ℕ) → Span → RefT (List ℕ) → Type 0

@@ -22,7 +22,7 @@ use Rattle.rules.specs.declared.Reading.{Reading}
 use Rattle.rules.specs.declared.Written.{Written}
 use Rattle.stream_rules.specs.Lister.{frames, startsOf, fits, tooLong, Lists}
 use Rattle.stream_rules.specs.declared.Listed.the-variants.{Count, Refused}
-use Rattle.promises.proofs.Demand2.{IsOne, exact, nothing-else}
+use Rattle.demands.proofs.Demand2.{IsOne, exact, nothing-else}
 
 module _ (family : ℕ) (bs : List ℕ) (answer : Reading) (reads : Reads family bs answer) where
   -- The reader of one frame: 1 where there is no such family,

@@ -19,7 +19,7 @@ use Rattle.stream_laws.proofs.Sessions as sessions
 use Rattle.stream_laws.proofs.Possible as sessions-there
 use Rattle.stream_laws.proofs.Earliest as earliest
 use Rattle.stream_laws.proofs.Listing as listing
-use Rattle.seek_laws.proofs.Families.{facts}
+use Rattle.stream_laws.proofs.Families.{facts}
 
 module _ (family : ℕ) (known : isFamily family ≡ true) where
   -- The rule finds the good frame that begins earliest, then the one that begins earliest right behind it, and so on; and

@@ -6,3 +6,4 @@ pub mod Writers
 pub mod Demand3
 pub mod Values
 pub mod Sheet
+pub mod Demand2

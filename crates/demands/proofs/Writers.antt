@@ -25,7 +25,7 @@ use Rattle.rules.specs.declared.Sentence05.{Sentence05}
 use Rattle.rules.specs.declared.Reading.the-variants.{Good}
 use Rattle.rules.specs.declared.Written.{Written}
 use Rattle.rules.specs.declared.Written.the-variants.{Length, Refused as NotWritten}
-use Rattle.promises.proofs.Demand2.{read-allowed, writes-again}
+use Rattle.demands.proofs.Demand2.{read-allowed, writes-again}
 
 -- what the theorems of demand 2 speak of: a writer of a frame
 abbrev pub WritesFrame : Frame → List ℕ → Written → List ℕ → Type 0

@@ -12,8 +12,8 @@ use Rattle.rules.specs.Codes.{isAck, isCommand}
 use Rattle.rules.specs.Status.{dataOf, statusOf, isStatus}
 use Rattle.rules.specs.declared.Frame.the-variants.{Ack, Status, Command}
 use Rattle.rules.specs.declared.Reading.the-variants.{Good, Refused}
-use Rattle.spe_tests.proofs.Frames.{not-ack}
-use Rattle.status_tests.proofs.Frames.{not-status}
+use Rattle.spe.proofs.PacketFrames.{not-ack}
+use Rattle.spe.proofs.ReportFrames.{not-status}
 use Rattle.frames.proofs.Families.{family1, family3}
 
 a-command : (s : List ℕ) → isCommand s ≡ isGood (readFamily3 s)

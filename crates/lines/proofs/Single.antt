@@ -3,7 +3,7 @@
 use Prim.Native.Nat.{ℕ}
 use mathlib.Core.Path.{_≡_, ap}
 use mathlib.Core.List.{List}
-use Rattle.laws.proofs.Single.{one-answer}
+use Rattle.frame_laws.proofs.Single.{one-answer}
 use Rattle.lines.specs.Lines.{Types}
 
 pub types-single : (texts : List (List ℕ)) (line : List ℕ) (at : ℕ) (x y : List ℕ) (a b : ℕ) → Types texts line at x a → Types texts line at y b → (x ≡ y) × (a ≡ b)

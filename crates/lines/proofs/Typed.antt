@@ -7,7 +7,7 @@ use mathlib.Core.List.{List, [], _∷_, _++_, flatMap}
 use borrow.Author.Tests.{le-leb, lt-leb}
 use lib.ListN.{length, drop, getD}
 use Rattle.pens.specs.Pens.{laid}
-use Rattle.leaves.proofs.Steps.{at as from-place, done}
+use Rattle.texts.proofs.Steps.{at as from-place, done}
 use Rattle.lines.specs.Lines.{typedOne, typed, Types}
 
 pub one-fits : (text line : List ℕ) (at : ℕ) → at + length text ≤ length line → typed (text ∷ []) (line, at) ≡ (laid at text line, at + length text)

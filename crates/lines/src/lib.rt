@@ -1,6 +1,9 @@
 // Lines of text, for the programs. Each function but the last three lays text into a lent line at a
 // place and gives the place behind it; what has no room is left out. The last three print: what is
 // printed is the line, and of the printing nothing is promised.
+mod input;
+
+pub use input::input_buffer;
 ghost use mathlib.Core.List.{[], _∷_};
 ghost use Rattle.rules.specs.Numbers.{hexDigits};
 ghost use Rattle.lines.specs.Lines.{Types, decimalText, spacedTexts, hexTexts, refusedTexts};
@@ -83,5 +86,5 @@ pub fn print_refused(n: u8) {
 // Prints the line up to the place, and a line end, in one write.
 pub fn print(line: &mut [u8], at: usize) {
     let end = text(line, at, b"\n");
-    io::write_all(libc::STDOUT_FILENO, leaves::text(line, 0, end));
+    io::write_all(libc::STDOUT_FILENO, texts::text(line, 0, end));
 }

@@ -1,10 +1,10 @@
 // Lists the frames of a capture: standard input is the family's digit, 1, 2 or 3, and the capture.
 // Prints a line for each frame and one for the whole, or the refusal alone.
-use printing::print_listing;
+use listings::print_listing;
 use std::num::wrapping_sub_u8;
 
 fn main() {
-    let mut input = room::input_buffer();
+    let mut input = lines::input_buffer();
     let n = io::read_full(libc::STDIN_FILENO, &mut input);
     if n == 0 {
         lines::print_refused(1);

@@ -15,7 +15,7 @@ use lib.Arith.{mod-mul, digits-div, digits-mod}
 use lib.Dec.{eqb, ltb}
 use lib.ListN.{length, length-append}
 use Rattle.rules.specs.Numbers.{withZeros, withSpaces}
-use Rattle.laws.proofs.Numbers.{ten-pos}
+use Rattle.frame_laws.proofs.Numbers.{ten-pos}
 use Rattle.pens.specs.Pens.{digitOr, digitsOr, numberIn}
 
 pub length-digits : (pad w n : ℕ) → length (digitsOr pad w n) ≡ w

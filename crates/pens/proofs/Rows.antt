@@ -9,7 +9,7 @@ use native.Mathlib.Omega.{arith}
 use lib.ListN.{length, length-append}
 use Rattle.rules.specs.Bytes.{part}
 use Rattle.rules.specs.Numbers.{withZeros, withSpaces}
-use Rattle.laws.proofs.Numbers.{zeros-length, spaces-length}
+use Rattle.frame_laws.proofs.Numbers.{zeros-length, spaces-length}
 use Rattle.pens.specs.Pens.{laid, fieldIn}
 use Rattle.pens.proofs.Laid.{length-laid, laid-behind, part-laid}
 use Rattle.pens.proofs.Digits.{number-zeros, number-spaces}

@@ -1,18 +1,18 @@
 // Runs a stream through the reader that is lent for each call, and prints only the reports: standard
 // input is the family's digit and the stream, which is offered in pieces of 16 bytes, then closed and
 // drained.
-use leaves::text;
-use lent::closed_lent;
-use lent::fed_lent;
 use rules::Frame;
 use std::num::wrapping_sub_u8;
+use stream::closed_lent;
+use stream::fed_lent;
 use stream_rules::Answer;
 use stream_rules::Outcome;
 use stream_rules::Reader;
 use stream_rules::Ready;
+use texts::text;
 
 fn main() {
-    let mut input = room::input_buffer();
+    let mut input = lines::input_buffer();
     let n = io::read_full(libc::STDIN_FILENO, &mut input);
     if n == 0 {
         lines::print_refused(1);
@@ -70,6 +70,6 @@ fn print_report(r: Ready) {
     let mut line = [0u8; 512];
     let at = lines::number(&mut line, 0, r.start as u64);
     let at = lines::text(&mut line, at, b" ");
-    let end = show::frame(&mut line, at, frame);
+    let end = replays::frame(&mut line, at, frame);
     lines::print(&mut line, end);
 }

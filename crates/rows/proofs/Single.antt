@@ -5,7 +5,7 @@ use mathlib.Core.Path.{_≡_, sym, _∙_}
 use mathlib.Core.List.{List}
 use lib.IntN.{ℤ}
 use Rattle.rules.specs.Answers.{Says}
-use Rattle.laws.proofs.Single.{one-answer}
+use Rattle.frame_laws.proofs.Single.{one-answer}
 use Rattle.rows.specs.Rows.{LaysRow, Lays}
 
 pub lays-single : (answer : Says) (r numbers : List ℤ) (a b : ℕ) (x y : List ℤ) → Lays answer r numbers a x → Lays answer r numbers b y

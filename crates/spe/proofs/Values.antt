@@ -11,9 +11,9 @@ use Rattle.rules.specs.Bytes.{first, part}
 use Rattle.rules.specs.Numbers.{isDigit, padded, paddedNumber, pointed, pointedNumber}
 use Rattle.rules.specs.Status.{dataOf, isStatus, readable, statusOf}
 use Rattle.rules.specs.declared.Status.{Status}
-use Rattle.laws.proofs.Bytes.{tests}
-use Rattle.laws.proofs.Lists.{elements, part-elements}
-use Rattle.status_tests.proofs.Frames.{framed-data}
+use Rattle.frame_laws.proofs.Bytes.{tests}
+use Rattle.frame_laws.proofs.Lists.{elements, part-elements}
+use Rattle.spe.proofs.ReportFrames.{framed-data}
 use Rattle.spe.specs.Report.{weighed}
 use Rattle.spe.proofs.Weighed.{digit-weighed, digits-weighed, padded-weighed, pointed-weighed}
 

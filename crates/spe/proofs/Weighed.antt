@@ -13,8 +13,8 @@ use lib.Dec.{eqb}
 use lib.ListN.{length, take, drop, getD}
 use Rattle.rules.specs.Bytes.{every, part}
 use Rattle.rules.specs.Numbers.{isDigit, decimalFrom, padded, paddedNumber, pointed, pointedNumber}
-use Rattle.laws.proofs.Bytes.{both, between-bounds, every-split, answer}
-use Rattle.laws.proofs.Lists.{part-elements}
+use Rattle.frame_laws.proofs.Bytes.{both, between-bounds, every-split, answer}
+use Rattle.frame_laws.proofs.Lists.{part-elements}
 use Rattle.spe.specs.Report.{weighed}
 
 pub digit-weighed : (b : ℕ) → isDigit b ≡ true → b % 16 ≡ b - 48

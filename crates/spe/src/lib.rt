@@ -1,13 +1,19 @@
 // Reads one frame of an SPE amplifier: a reply of family 1, or a command of family 3. A frame is tested
 // as a whole, and only what a good one says is read; of a report also as numbers.
-use leaves::text;
-use leaves::wide;
+mod codes;
+mod packets;
+mod status;
+
+pub use codes::is_ack_code;
+pub use codes::is_code;
+pub use packets::is_ack;
+pub use packets::is_command;
 use rules::Frame;
 use rules::Reading;
 use rules::Status;
-use spe_tests::is_ack;
-use spe_tests::is_command;
-use status_tests::is_status;
+pub use status::is_status;
+use texts::text;
+use texts::wide;
 ghost use mathlib.Core.Path.{_≡_};
 ghost use mathlib.Core.Bool.{true};
 ghost use mathlib.Core.List.{_++_};

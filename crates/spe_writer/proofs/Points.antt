@@ -7,7 +7,7 @@ use mathlib.Core.List.{List, _∷_}
 use native.Mathlib.Nat.{mod-lt, div-lt-iff-lt-mul}
 use lib.Pow.{pow-add}
 use Rattle.rules.specs.Numbers.{withPoint}
-use Rattle.laws.proofs.Numbers.{ten-pos, point-length}
+use Rattle.frame_laws.proofs.Numbers.{ten-pos, point-length}
 use Rattle.pens.specs.Pens.{laid}
 use Rattle.pens.proofs.Digits.{number-zeros, number-spaces}
 use Rattle.pens.proofs.Rows.{Row, row}

@@ -9,8 +9,8 @@ use lib.ListN.{length, take, drop, length-append}
 use Rattle.rules.specs.Sentences.{commas}
 use Rattle.rules.specs.Status.{statusTexts, statusFrame, statusBytes, joined}
 use Rattle.rules.specs.declared.Status.{Status}
-use Rattle.laws.proofs.Numbers.{zeros-length, spaces-length, point-length}
-use Rattle.promises.proofs.Report.{texts-length}
+use Rattle.frame_laws.proofs.Numbers.{zeros-length, spaces-length, point-length}
+use Rattle.frame_laws.proofs.Report.{texts-length}
 use Rattle.spe_writer.specs.Fields.{check}
 
 -- texts behind commas, and more of them behind

@@ -8,7 +8,7 @@ use native.Mathlib.Omega.{arith}
 use borrow.Author.Tests.{leb-true, eqb-true}
 use lib.Dec.{eqb, leb}
 use lib.ListN.{length, getD, length-append, List·getD-append}
-use Rattle.laws.proofs.Bytes.{both}
+use Rattle.frame_laws.proofs.Bytes.{both}
 use Rattle.starts.specs.Begins.{beginsReport}
 
 pub record Begun (bs : List ℕ) : Type 0 where

@@ -20,7 +20,7 @@ use Rattle.rules.specs.declared.Frame.{Frame}
 use Rattle.rules.specs.declared.Frame.the-variants.{Ack, Status, Command}
 use Rattle.rules.specs.declared.Reading.{Reading}
 use Rattle.rules.specs.declared.Reading.the-variants.{Good, Refused}
-use Rattle.laws.proofs.Bytes.{tests, same-eq, every-split, between-bounds}
+use Rattle.frame_laws.proofs.Bytes.{tests, same-eq, every-split, between-bounds}
 use Rattle.stream_rules.specs.Heads.{wait, good, markOf, needs, payloadRun, spe-undecided, undecided, lengthAt, headOf, head}
 
 -- What is good at the head is what the reader of one frame reads from as many bytes.

@@ -3,7 +3,7 @@
 use Prim.Native.Nat.{ℕ}
 use mathlib.Core.Path.{_≡_}
 use mathlib.Core.List.{List}
-use Rattle.laws.proofs.Single.{one-answer}
+use Rattle.frame_laws.proofs.Single.{one-answer}
 use Rattle.stream_rules.specs.Streams.{Feeds, Shuts, Makes}
 use Rattle.stream_rules.specs.Lister.{Lists}
 use Rattle.stream_rules.specs.declared.Reader.{Reader}

@@ -1,2 +1,3 @@
-// Demand 3 of the minutes, proved over the definitions, once for any family that has four facts. The
-// crate has no code: what is promised stands in specs/, the theorems in proofs/.
+// What holds of the head of a list of bytes, for each family: what a good frame says of the bytes,
+// that more bytes change nothing decided, and how many bytes decide. The crate has no code: the laws
+// stand in proofs/.

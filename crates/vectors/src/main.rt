@@ -5,8 +5,8 @@
 // `#` is a heading and is printed as it is.
 //
 // What is printed is tested, not proved: the contracts only keep indices in range.
-use printing::print_listing;
-use printing::print_replay;
+use listings::print_listing;
+use replays::print_replay;
 use rules::Reading;
 use std::num::wrapping_sub_u8;
 ghost use Prim.Native.Nat.{_≤_};
@@ -51,7 +51,7 @@ fn print_answer(line: &[u8]) {
         lines::print_text(line);
         return;
     }
-    if leaves::one_of(b"lr", line[0]) {
+    if texts::one_of(b"lr", line[0]) {
         print_run(line);
         return;
     }
@@ -106,7 +106,7 @@ fn from_hex(digits: &[u8], bytes: &mut [u8]) -> usize
         if digits.len() / 2 <= n {
             return n;
         }
-        let pair = hex::hex_pair(digits[2 * n], digits[2 * n + 1]);
+        let pair = checksums::hex_pair(digits[2 * n], digits[2 * n + 1]);
         if !pair.good {
             return n;
         }
@@ -120,7 +120,7 @@ fn print_frame(family: u8, bytes: &[u8]) {
     let mut line = [0u8; 512];
     match frames::read_frame(family, bytes) {
         Reading::Good(frame) => {
-            let end = show::frame(&mut line, 0, frame);
+            let end = replays::frame(&mut line, 0, frame);
             lines::print(&mut line, end);
         }
         Reading::Refused(n) => lines::print_refused(n),

@@ -5,7 +5,7 @@ use captures::next_at;
 use std::num::wrapping_sub_u8;
 
 fn main() {
-    let mut input = room::input_buffer();
+    let mut input = lines::input_buffer();
     let n = io::read_full(libc::STDIN_FILENO, &mut input);
     if n == 0 {
         lines::print_refused(1);
@@ -34,6 +34,6 @@ fn print_frame(family: u8, frame: &[u8], place: usize) {
     let at = lines::number(&mut line, 0, place as u64);
     let at = lines::spaced(&mut line, at, frame.len() as u64);
     let at = lines::text(&mut line, at, b" ");
-    let end = printing::part_kind(&mut line, at, family, frame);
+    let end = listings::part_kind(&mut line, at, family, frame);
     lines::print(&mut line, end);
 }

@@ -5,8 +5,8 @@ use denote.Ref.{now}
 use borrow.Author.Needs.{needs}
 use Rattle.rules.specs.Bytes.{every}
 use Rattle.rules.specs.Sentences.{isPayloadByte}
-use Rattle.fletcher.specs.Sums.{sumsIn}
-use Rattle.hex.specs.declared.HexPairs.{HexPairs}
+use Rattle.checksums.specs.Sums.{sumsIn}
+use Rattle.checksums.specs.declared.hexadecimal.HexPairs.{HexPairs}
 use Rattle.alpha.proofs.Payloads.{checked}
 use Rattle.alpha.proofs.is_checked.Statement.{statement}
 use Rattle.alpha.proofs.is_checked.Tie as tie

@@ -7,7 +7,7 @@ use native.Mathlib.Omega.{arith}
 use denote.Ref.{now}
 use borrow.Author.Needs.{needs}
 use Rattle.rules.specs.Sentences.{numberOf}
-use Rattle.numbers.specs.declared.Number.{Number}
+use Rattle.texts.specs.declared.numbers.Number.{Number}
 use Rattle.alpha.proofs.Payloads.{the-number, number-small, behind, as02, as03, as05, as-other}
 use Rattle.alpha.proofs.read_payload.Statement.{statement}
 use Rattle.alpha.proofs.read_payload.Tie as tie

@@ -7,7 +7,7 @@ use borrow.Author.Needs.{needs}
 use borrow.Author.Tests.{not-true, not-false}
 use Rattle.rules.specs.Sentences.{isSentence}
 use Rattle.rules.specs.Answers.{readOne}
-use Rattle.laws.proofs.Saying.{reads}
+use Rattle.frame_laws.proofs.Saying.{reads}
 use Rattle.alpha.proofs.Frames.{no-sentence, long-enough, numbered, a-sentence}
 use Rattle.alpha.proofs.read_sentence.Statement.{statement}
 use Rattle.alpha.proofs.read_sentence.Tie as tie

@@ -4,7 +4,7 @@ use mathlib.Core.Path.{refl, _∙_}
 use native.Mathlib.Nat.{add-sub-cancel}
 use native.Mathlib.Omega.{arith}
 use borrow.Author.Needs.{needs}
-use Rattle.fletcher.specs.Sums.{sumsIn}
+use Rattle.checksums.specs.Sums.{sumsIn}
 use Rattle.pens.proofs.Rows.{row, _then_}
 use Rattle.alpha_writer.proofs.put_seal.Statement.{statement}
 use Rattle.alpha_writer.proofs.put_seal.Tie as tie

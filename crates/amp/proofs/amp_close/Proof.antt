@@ -47,7 +47,7 @@ use Rattle.amp.proofs.closed as closed
 use Rattle.amp.proofs.closed.Symbol as closed-def
 use Rattle.amp.proofs.closed.Symbol.{name as #amp·closed}
 use Rattle.amp.proofs.closed.Met as closed-thm
-use Rattle.lent.proofs.Lent.{vals, reader-typed, opens-reader, closes-reader}
+use Rattle.stream.proofs.Behind.{vals, reader-typed, opens-reader, closes-reader}
 use Rattle.amp.proofs.Handed.{read-back, said-back}
 use Rattle.amp.proofs.amp_close.Key.{name as #amp·amp-close}
 use Rattle.amp.proofs.amp_close as amp-close

@@ -46,18 +46,18 @@ use denote.Triple.Walked.{says, Stays, stay-ref, stay-none-slice, gave-slice, wa
 use Rattle.stream_rules.specs.declared.Reader.{Reader}
 use Rattle.stream_rules.proofs.Reader as R
 use Rattle.stream_rules.proofs.Reader.Laws as R′
-use Rattle.feeding.specs.Places.{readerAt}
-use Rattle.fed_rows.specs.FedRows.{FeedsRow, FeedsRowAt}
-use Rattle.fed_rows.specs.declared.Counts.{Counts}
-use Rattle.fed_rows.proofs.Counts as T
-use Rattle.fed_rows.proofs.Counts.Laws as T′
-use Rattle.fed_rows.proofs.feed_row as feed-row
-use Rattle.fed_rows.proofs.feed_row.Symbol as feed-row-def
-use Rattle.fed_rows.proofs.feed_row.Symbol.{name as #fed-rows·feed-row}
-use Rattle.fed_rows.proofs.feed_row.Met as feed-row-thm
-use Rattle.lent.proofs.Lent.{opens-reader, closes-reader}
-use Rattle.lent.proofs.Parts.{Parts, parts, places as all-places, of-parts, low, held, held-val, held-tells, held-plain}
-use Rattle.lent.proofs.Fields.{ref-at, typed, untyped, lends-field, takes-field}
+use Rattle.stream.specs.Places.{readerAt}
+use Rattle.row_stream.specs.FedRows.{FeedsRow, FeedsRowAt}
+use Rattle.row_stream.specs.declared.Counts.{Counts}
+use Rattle.row_stream.proofs.Counts as T
+use Rattle.row_stream.proofs.Counts.Laws as T′
+use Rattle.row_stream.proofs.feed_row as feed-row
+use Rattle.row_stream.proofs.feed_row.Symbol as feed-row-def
+use Rattle.row_stream.proofs.feed_row.Symbol.{name as #row-stream·feed-row}
+use Rattle.row_stream.proofs.feed_row.Met as feed-row-thm
+use Rattle.stream.proofs.Behind.{opens-reader, closes-reader}
+use Rattle.stream.proofs.Parts.{Parts, parts, places as all-places, of-parts, low, held, held-val, held-tells, held-plain}
+use Rattle.stream.proofs.Fields.{ref-at, typed, untyped, lends-field, takes-field}
 use Rattle.amp.proofs.amp_feed.Key.{name as #amp·amp-feed}
 use Rattle.amp.proofs.amp_feed as amp-feed
 use Rattle.amp.proofs.amp_feed.Statement as stated
@@ -186,7 +186,7 @@ module _ {M : Type 1} (𝓤 : URA M) (H : Heap 𝓤) (A : Atoms 𝓤) (W : Given
       nothing ! $ move ! (2 ∷ 0 ∷ []) $ fjoin ! $ move ! (2 ∷ 0 ∷ []) $ fjoin ! $ move ! (1 ∷ 0 ∷ []) $ fjoin ! $
       owned ! u32 (Is u32) (uint-makes 𝓤 H A W w32) n _ is $ move ! (1 ∷ 0 ∷ []) $ done !
 
-  module _ (C : Calls 𝓤 H) (Λ : Loops 𝓤 H) (fm : FmC 𝓤 H (W .laws) C) (known : Triple 𝓤 (C #fed-rows·feed-row) (Feed 𝓤 H A at-mem run)) where
+  module _ (C : Calls 𝓤 H) (Λ : Loops 𝓤 H) (fm : FmC 𝓤 H (W .laws) C) (known : Triple 𝓤 (C #row-stream·feed-row) (Feed 𝓤 H A at-mem run)) where
     walk : Is (ShrSlice (named 1) κ′ u8) s (v ∷ []) → Is (MutSlice (named 2) κ″ i64) l (m ∷ [])
         → ent 𝓤 (onEntry 𝓤 H A amp-feed.signature (κ, (κ′, (κ″, tt))) (q, (q′, (q″, tt))) x at) (WpFn 𝓤 H C Λ code.function (vptr b o ∷ v ∷ m ∷ []) Post)
     walk p p″ =
@@ -237,7 +237,7 @@ module _ {M : Type 1} (𝓤 : URA M) (H : Heap 𝓤) (A : Atoms 𝓤) (W : Given
         keep ! (0 ∷ 1 ∷ 2 ∷ 3 ∷ 4 ∷ 6 ∷ []) $ by ! (exits (c .number) (after h c (places α δ ws)) (numbers α δ ws) (fed (all-places h (parts h was))) long (counted c u is .number-is))))))))))))))))))))))))
 
 module _ {M : Type 1} (𝓤 : URA M) (H : Heap 𝓤) (A : Atoms 𝓤) (W : Given 𝓤 H A) (at-mem : Memory → SProp 𝓤) (run : Routine → Fun 𝓤) where
-  amp-feed-walks : (C : Calls 𝓤 H) (Λ : Loops 𝓤 H) → FmC 𝓤 H (W .laws) C → Triple 𝓤 (C #fed-rows·feed-row) (Feed 𝓤 H A at-mem run)
+  amp-feed-walks : (C : Calls 𝓤 H) (Λ : Loops 𝓤 H) → FmC 𝓤 H (W .laws) C → Triple 𝓤 (C #row-stream·feed-row) (Feed 𝓤 H A at-mem run)
       → Walks 𝓤 H A amp-feed.ended stayed (WpFn 𝓤 H C Λ code.function) (amp-feed.clauses 𝓤 H A at-mem run)
   amp-feed-walks C Λ fm known = walked 𝓤 H A amp-feed.ended stayed (amp-feed.clauses 𝓤 H A at-mem run) (WpFn 𝓤 H C Λ code.function) (λ κs. (ptr-vals, (slice-vals, (slice-vals, tt))))
       (λ κs. (mut-tells (named 0) (κs .0) R.the-row, (shr-slice-tells (named 1) (κs .1 .0) u8, (mut-slice-tells (named 2) (κs .1 .1 .0) i64, tt))))
@@ -247,7 +247,7 @@ module _ {M : Type 1} (𝓤 : URA M) (H : Heap 𝓤) (A : Atoms 𝓤) (W : Given
   goes : AllGo 𝓤 H A W 3 (amp-feed.signature .params) (amp-feed.ended .kept) stayed
   goes = (goes-ref 𝓤 H A W 3 0 tt (plain (λ _. R.the-row)), (goes-none-slice 𝓤 H A W 3 (1 ∷ []) tt (plain (λ _. u8)) yes, (goes-gave-slice 𝓤 H A W 3 2 tt (plain (λ _. i64)), tt)))
 
-amp-feed-meets : {M : Type 1} (𝓤 : URA M) (H : Heap 𝓤) (A : Atoms 𝓤) (W : Given 𝓤 H A) (at-mem : Memory → SProp 𝓤) (run : Routine → Fun 𝓤) (𝓣 : Tables 𝓤 H) → Triple 𝓤 (𝓣 .C #fed-rows·feed-row) (Feed 𝓤 H A at-mem run)
+amp-feed-meets : {M : Type 1} (𝓤 : URA M) (H : Heap 𝓤) (A : Atoms 𝓤) (W : Given 𝓤 H A) (at-mem : Memory → SProp 𝓤) (run : Routine → Fun 𝓤) (𝓣 : Tables 𝓤 H) → Triple 𝓤 (𝓣 .C #row-stream·feed-row) (Feed 𝓤 H A at-mem run)
     → Meets 𝓤 H A amp-feed.signature (WpFn 𝓤 H (𝓣 .C) (𝓣 .Λ) code.function) (amp-feed.spec 𝓤 H A at-mem run)
 amp-feed-meets 𝓤 H A W at-mem run 𝓣 known = walk-meets 𝓤 H A amp-feed.ended stayed W (goes 𝓤 H A W at-mem run) (amp-feed.clauses 𝓤 H A at-mem run) (WpFn 𝓤 H (𝓣 .C) (𝓣 .Λ) code.function) (WpFn-mono 𝓤 H (W .laws) 𝓣 code.function)
     (amp-feed-walks 𝓤 H A W at-mem run (𝓣 .C) (𝓣 .Λ) (fmOf 𝓤 H (W .laws) 𝓣) known)
@@ -258,4 +258,4 @@ amp-feed-spec 𝓤 H 𝓜 𝓖 𝓡 =
     entered 𝓤 H (tripleOf 𝓤 H (𝓖 .A) amp-feed.signature (amp-feed.spec 𝓤 H (𝓖 .A) (𝓜 .mem) (𝓡 .run)))
     (tables 𝓤 H 𝓜 𝓡 code.env .C) (tables 𝓤 H 𝓜 𝓡 code.env .Λ) #amp·amp-feed code.function (code.unfolded 𝓤 H 𝓜 𝓡)
     (amp-feed-meets 𝓤 H (𝓖 .A) (givenOf 𝓤 H 𝓜 𝓖) (𝓜 .mem) (𝓡 .run) (tablesOf 𝓤 H 𝓜 (tables 𝓤 H 𝓜 𝓡 code.env))
-    (cited 𝓤 H (Feed 𝓤 H (𝓖 .A) (𝓜 .mem) (𝓡 .run)) 𝓜 𝓡 code.env #fed-rows·feed-row feed-row-def.routine code.calls-fed-rows·feed-row (feed-row-thm.met 𝓤 H 𝓜 𝓖 𝓡)))
+    (cited 𝓤 H (Feed 𝓤 H (𝓖 .A) (𝓜 .mem) (𝓡 .run)) 𝓜 𝓡 code.env #row-stream·feed-row feed-row-def.routine code.calls-row-stream·feed-row (feed-row-thm.met 𝓤 H 𝓜 𝓖 𝓡)))

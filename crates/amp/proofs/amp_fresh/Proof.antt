@@ -48,7 +48,7 @@ use Rattle.amp.proofs.freshened as freshened
 use Rattle.amp.proofs.freshened.Symbol as freshened-def
 use Rattle.amp.proofs.freshened.Symbol.{name as #amp·freshened}
 use Rattle.amp.proofs.freshened.Met as freshened-thm
-use Rattle.lent.proofs.Lent.{vals, reader-typed, opens-reader, closes-reader}
+use Rattle.stream.proofs.Behind.{vals, reader-typed, opens-reader, closes-reader}
 use Rattle.amp.proofs.Handed.{read-back, said-back}
 use Rattle.amp.proofs.amp_fresh.Key.{name as #amp·amp-fresh}
 use Rattle.amp.proofs.amp_fresh as amp-fresh

@@ -3,7 +3,7 @@
 -- Assumes nothing.
 use mathlib.Core.Path.{ap, _∙_}
 use borrow.Author.Tests.{eq-eqb, ne-eqb}
-use Rattle.finds.specs.declared.Span.{Span}
+use Rattle.captures.specs.declared.spans.Span.{Span}
 use Rattle.amp.proofs.Families.{next-byte}
 use borrow.Author.Needs.{needs}
 use Rattle.amp.proofs.amp_next.Statement.{statement}

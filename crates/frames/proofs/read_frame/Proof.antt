@@ -1,7 +1,7 @@
 -- `frames::read_frame` meets its contract: the family picks its reader, whose promise is that of the family.
 -- Assumes nothing.
 use borrow.Author.Needs.{needs}
-use Rattle.laws.proofs.Saying.{reads}
+use Rattle.frame_laws.proofs.Saying.{reads}
 use Rattle.frames.proofs.Families.{no-family}
 use Rattle.frames.proofs.read_frame.Statement.{statement}
 use Rattle.frames.proofs.read_frame.Tie as tie

@@ -4,7 +4,7 @@ use Prim.Native.Nat.{_+_, _-_, _≤_}
 use native.Mathlib.Omega.{arith}
 use borrow.Author.Needs.{needs}
 use lib.ListN.{length}
-use Rattle.seek_laws.proofs.Families.{Fewer, offers-rest}
+use Rattle.stream_laws.proofs.Families.{Fewer, offers-rest}
 use Rattle.reports.proofs.print_reports.Statement.{statement}
 use Rattle.reports.proofs.print_reports.Tie as tie
 

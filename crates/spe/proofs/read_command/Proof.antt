@@ -11,8 +11,8 @@ use Rattle.rules.specs.Codes.{isCommand}
 use Rattle.rules.specs.Answers.{readOne, readFamily3}
 use Rattle.rules.specs.declared.Frame.the-variants.{Command}
 use Rattle.rules.specs.declared.Reading.the-variants.{Good, Refused}
-use Rattle.laws.proofs.Saying.{reads}
-use Rattle.spe_tests.proofs.Frames.{not-command, six-bytes}
+use Rattle.frame_laws.proofs.Saying.{reads}
+use Rattle.spe.proofs.PacketFrames.{not-command, six-bytes}
 use Rattle.spe.proofs.read_command.Statement.{statement}
 use Rattle.spe.proofs.read_command.Tie as tie
 

@@ -11,9 +11,9 @@ use Rattle.rules.specs.Codes.{isAck}
 use Rattle.rules.specs.Answers.{readOne, readFamily1}
 use Rattle.rules.specs.declared.Frame.the-variants.{Ack}
 use Rattle.rules.specs.declared.Reading.the-variants.{Good}
-use Rattle.laws.proofs.Saying.{reads}
+use Rattle.frame_laws.proofs.Saying.{reads}
 use Rattle.spe.specs.Report.{reportIn}
-use Rattle.spe_tests.proofs.Frames.{not-ack, six-bytes}
+use Rattle.spe.proofs.PacketFrames.{not-ack, six-bytes}
 use Rattle.spe.proofs.read_reply.Statement.{statement}
 use Rattle.spe.proofs.read_reply.Tie as tie
 

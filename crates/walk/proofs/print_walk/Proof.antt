@@ -5,8 +5,8 @@ use mathlib.Core.Path.{ap, _∙_}
 use native.Mathlib.Omega.{arith}
 use borrow.Author.Needs.{needs}
 use lib.ListN.{length}
-use Rattle.finds.specs.Finds.{nextIn}
-use Rattle.finds.proofs.Spans.{spanned, advances}
+use Rattle.captures.specs.Finds.{nextIn}
+use Rattle.captures.proofs.Standing.{spanned, advances}
 use Rattle.walk.proofs.print_walk.Statement.{statement}
 use Rattle.walk.proofs.print_walk.Tie as tie
 

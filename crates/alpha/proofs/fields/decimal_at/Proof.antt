@@ -3,7 +3,7 @@
 use native.Mathlib.Omega.{arith}
 use denote.Ref.{now}
 use borrow.Author.Needs.{needs}
-use Rattle.commas.proofs.Commas.{end-within}
+use Rattle.texts.proofs.FieldEnds.{end-within}
 use Rattle.alpha.proofs.Texts.{absent, decimal-too-wide, decimal-field}
 use Rattle.alpha.proofs.fields.decimal_at.Statement.{statement}
 use Rattle.alpha.proofs.fields.decimal_at.Tie as tie

@@ -5,7 +5,7 @@ use mir.Syntax.{w32}
 use mir.ValLaws.{toZ-ofZ}
 use denote.Ref.{now}
 use borrow.Author.Needs.{needs}
-use Rattle.commas.proofs.Commas.{end-within}
+use Rattle.texts.proofs.FieldEnds.{end-within}
 use Rattle.alpha.proofs.Texts.{absent}
 use Rattle.alpha.proofs.Temperatures.{degrees-field}
 use Rattle.alpha.proofs.fields.degrees_at.Statement.{statement}

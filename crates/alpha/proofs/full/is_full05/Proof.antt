@@ -4,7 +4,7 @@ use mathlib.Core.Path.{sym, _∙_}
 use denote.Ref.{now}
 use borrow.Author.Needs.{needs}
 use Rattle.rules.specs.Sentences.{commas}
-use Rattle.laws.proofs.Bytes.{both}
+use Rattle.frame_laws.proofs.Bytes.{both}
 use Rattle.alpha.proofs.Bounds.{rowOf}
 use Rattle.alpha.proofs.Full05.{full05}
 use Rattle.alpha.proofs.full.is_full05.Statement.{statement}

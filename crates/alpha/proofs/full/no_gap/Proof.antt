@@ -8,7 +8,7 @@ use native.Mathlib.Omega.{arith}
 use lib.ListN.{length, drop, getD}
 use denote.Ref.{now}
 use Rattle.rules.specs.Bytes.{every}
-use Rattle.leaves.proofs.Steps.{at, done}
+use Rattle.texts.proofs.Steps.{at, done}
 use Rattle.alpha.specs.Payloads.{outsideGap}
 use Rattle.alpha.proofs.full.no_gap.Statement.{statement}
 use Rattle.alpha.proofs.full.no_gap.Tie as tie

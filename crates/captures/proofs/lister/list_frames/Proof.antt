@@ -1,0 +1,120 @@
+-- `lister::list_frames` meets its contract: its three tests are the refusals, in their order.
+-- Assumes nothing.
+use Prim.Native.Nat.{ℕ, _/_, _≤_}
+use mathlib.Core.Path.{_≡_, sym, ap, _∙_}
+use mathlib.Core.Bool.{Bool, true, false, _&&_, cond, not}
+use mathlib.Core.List.{List, _++_}
+use native.Mathlib.Omega.{arith}
+use borrow.Author.Needs.{needs}
+use borrow.Author.Tests.{not-true, not-false, le-leb, lt-leb}
+use lib.Dec.{leb}
+use lib.ListN.{length, drop}
+use Rattle.rules.specs.Answers.{isFamily}
+use Rattle.stream_rules.specs.Lister.{frames, startsOf, fits, Lists}
+use Rattle.stream_rules.specs.declared.Listed.{Listed}
+use Rattle.stream_rules.specs.declared.Listed.the-variants.{Count, Refused}
+use Rattle.stream_laws.proofs.Saying.{lists}
+use Rattle.captures.proofs.Walk.{few-frames}
+use Rattle.captures.proofs.lister.list_frames.Statement.{statement}
+use Rattle.captures.proofs.lister.list_frames.Tie as tie
+
+module _ (family : ℕ) (bs out : List ℕ) where
+  abbrev room : Bool
+  room = leb (length (frames family bs)) (length out)
+
+  -- the answer and the list, by the three tests
+  abbrev answer : Bool → Bool → Bool → Listed
+  answer f g r = cond (not f) (Refused 1) (cond (not g) (Refused 7) (cond (not r) (Refused 4) (Count (length (frames family bs)))))
+
+  abbrev after : Bool → Bool → Bool → List ℕ
+  after f g r = cond (f && g && r) (startsOf (frames family bs) ++ drop (length (frames family bs)) out) out
+
+  no-family : isFamily family ≡ false → Lists family bs out (Refused 1) out
+  no-family e = lists (λ i. answer (sym e i) (fits bs) room) (λ i. after (sym e i) (fits bs) room)
+
+  too-long : isFamily family ≡ true → fits bs ≡ false → Lists family bs out (Refused 7) out
+  too-long e g = lists (λ i. answer (sym e i) (sym g i) room) (λ i. after (sym e i) (sym g i) room)
+
+  no-room : isFamily family ≡ true → fits bs ≡ true → room ≡ false → Lists family bs out (Refused 4) out
+  no-room e g r = lists (λ i. answer (sym e i) (sym g i) (sym r i)) (λ i. after (sym e i) (sym g i) (sym r i))
+
+  counts : isFamily family ≡ true → fits bs ≡ true → room ≡ true → (n : ℕ) (left : List ℕ) → n ≡ length (frames family bs)
+      → left ≡ startsOf (frames family bs) ++ drop (length (frames family bs)) out → Lists family bs out (Count n) left
+  counts e g r n left count content =
+      lists (ap Count count ∙ (λ i. answer (sym e i) (sym g i) (sym r i))) (content ∙ (λ i. after (sym e i) (sym g i) (sym r i)))
+
+-- where a sixth as many places as bytes are lent, there is room
+room-for-all : (family : ℕ) (bs out : List ℕ) → length bs / 6 ≤ length out → length (frames family bs) ≤ length out
+room-for-all family bs out h = omega (arith, few-frames family bs, h)
+
+-- where the family's test has been passed
+a-family : (c : tie.Else1) → isFamily (c .before .before .before .before .args .family) ≡ true
+a-family c = sym (c .before .is-family .ensures) ∙ not-false _ (c .if1 .left)
+
+is-family-requires : tie.Need-is-family-requires
+is-family-requires c κs = search needs
+
+returns : tie.Need-returns
+returns c =
+    let a = c .before .before .before .before .args in
+    no-family (a .family) (a .capture .now) (a .starts .now) (sym (c .before .is-family .ensures) ∙ not-true _ (c .if1 .taken))
+
+returns-2 : tie.Need-returns-2
+returns-2 c =
+    let a = c .before .before .before .before .before .args in
+    too-long (a .family) (a .capture .now) (a .starts .now) (a-family (c .before)) (lt-leb (length (a .capture .now)) 65536 (c .if2 .taken))
+
+fill-starts-requires : tie.Need-fill-starts-requires
+fill-starts-requires c κs = (a-family (c .before .before .before), c .before .before .if2 .left)
+
+same-length : tie.Need-same-length
+same-length c = search needs
+
+returns-3 : tie.Need-returns-3
+returns-3 c =
+    let a = c .before .before .before .before .before .before .before .before .before .before .args in
+    let done = c .before .before .fill-starts .ensures in
+    let room = room-for-all (a .family) (a .capture .now) (a .starts .now) (c .before .before .before .before .if3 .taken) in
+    counts (a .family) (a .capture .now) (a .starts .now) (a-family (c .before .before .before .before .before .before)) (le-leb (length (a .capture .now)) 65536 (c .before .before .before .before .before .if2 .left))
+    (le-leb (length (frames (a .family) (a .capture .now))) (length (a .starts .now)) room) _ _ (done .count) (done .content room)
+
+count-frames-requires : tie.Need-count-frames-requires
+count-frames-requires c κs = (a-family (c .before .before), c .before .if2 .left)
+
+returns-4 : tie.Need-returns-4
+returns-4 c =
+    let a = c .before .before .before .before .before .before .before .before .args in
+    let n = length (frames (a .family) (a .capture .now)) in
+    no-room (a .family) (a .capture .now) (a .starts .now) (a-family (c .before .before .before .before)) (le-leb (length (a .capture .now)) 65536 (c .before .before .before .if2 .left))
+    (lt-leb n (length (a .starts .now)) (omega (arith, c .if4 .taken, c .before .count-frames .ensures)))
+
+fill-starts-requires-2 : tie.Need-fill-starts-requires-2
+fill-starts-requires-2 c κs = (a-family (c .before .before .before .before .before), c .before .before .before .before .if2 .left)
+
+same-length-2 : tie.Need-same-length-2
+same-length-2 c = search needs
+
+returns-5 : tie.Need-returns-5
+returns-5 c =
+    let a = c .before .before .before .before .before .before .before .before .before .before .before .before .args in
+    let n = length (frames (a .family) (a .capture .now)) in
+    let done = c .before .before .fill-starts2 .ensures in
+    let room : n ≤ length (a .starts .now) = omega (arith, c .before .before .before .before .if4 .left, c .before .before .before .before .before .count-frames .ensures) in
+    counts (a .family) (a .capture .now) (a .starts .now) (a-family (c .before .before .before .before .before .before .before .before)) (le-leb (length (a .capture .now)) 65536 (c .before .before .before .before .before .before .before .if2 .left))
+    (le-leb n (length (a .starts .now)) room) _ _ (done .count) (done .content room)
+
+pub list-frames-spec : {M : Type 1} → statement M
+list-frames-spec =
+    tie.close
+    (tie.spec
+    is-family-requires
+    returns
+    returns-2
+    fill-starts-requires
+    same-length
+    returns-3
+    count-frames-requires
+    returns-4
+    fill-starts-requires-2
+    same-length-2
+    returns-5)

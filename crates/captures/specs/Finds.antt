@@ -1,0 +1,43 @@
+-- What a capture reader gives next: a frame of the capture, and the place that it has then reached.
+use Prim.Native.Nat.{ℕ, _+_}
+use mathlib.Core.Bool.{Bool, true, false, _&&_, _||_, cond, not}
+use mathlib.Core.List.{List, [], _∷_}
+use lib.Dec.{leb}
+use lib.ListN.{length, drop}
+use Rattle.rules.specs.Answers.{isFamily}
+use Rattle.rules.specs.declared.Frame.{Frame}
+use Rattle.rules.specs.declared.Frame.the-variants.{Ack, Status, Command, Apa02, Apa03, Apa05, Other}
+use Rattle.stream_rules.specs.Heads.{head}
+use Rattle.stream_rules.specs.Rule.{Found, rule}
+use Rattle.stream_rules.specs.Lister.{fits}
+use Rattle.captures.specs.declared.spans.Span.{Span}
+
+-- the frames that demand 3's rule finds from a place on
+abbrev pub framesFrom : ℕ → List ℕ → ℕ → List Found
+framesFrom family capture place = rule (head family) 0 place 0 (drop place capture)
+
+abbrev pub isReport : Frame → Bool
+isReport (Ack c) = false
+isReport (Status s) = true
+isReport (Command c) = false
+isReport (Apa02 r) = false
+isReport (Apa03 r) = false
+isReport (Apa05 r) = false
+isReport (Other n) = false
+
+-- A frame is given with the place just behind it; where none is left, the part is empty and the place unchanged.
+abbrev pub given : Found → Span
+given f = record { start = f .start; size = f .size; behind = f .start + f .size }
+
+abbrev pub nothing : ℕ → Span
+nothing place = record { start = 0; size = 0; behind = place }
+
+-- The first of the frames; when only reports are wanted, a frame that is no status report is passed over.
+unfoldable pub firstWanted : Bool → ℕ → List Found → Span
+firstWanted onlyReports place [] = nothing place
+firstWanted onlyReports place (f ∷ fs) = cond (not onlyReports || isReport (f .frame)) (given f) (firstWanted onlyReports place fs)
+
+-- From a place on; also nothing where the place is beyond the end, or refusal 1 or 7 would apply.
+unfoldable pub nextIn : ℕ → List ℕ → ℕ → Bool → Span
+nextIn family capture place onlyReports =
+    cond (isFamily family && fits capture && leb place (length capture)) (firstWanted onlyReports place (framesFrom family capture place)) (nothing place)

@@ -1,0 +1,52 @@
+// What a capture reader gives next, on a slice and a number: the earliest frame from a place on, or,
+// when only reports are wanted, the first status report among the frames from there on.
+use rules::Frame;
+use search::First;
+use search::first_good;
+use starts::is_family;
+ghost use mathlib.Core.Path.{_≡_};
+ghost use Rattle.captures.specs.Finds.{nextIn};
+
+// Where a frame stands in a capture, and the place reached: just behind it. The size is 0 where there
+// is none; the place is then as it was.
+pub struct Span {
+    pub start: usize,
+    pub size: usize,
+    pub behind: usize,
+}
+
+// The next frame from a place on. It is none where no frame is left, the place is beyond the end, or
+// refusal 1 or 7 would apply.
+pub fn find(family: u8, capture: &[u8], place: usize, reports: bool) -> Span
+    ensures { λ r. ⌜ r ≡ nextIn family (now (capture .entry)) place reports ⌝ }
+{
+    let none = Span {
+        start: 0,
+        size: 0,
+        behind: place,
+    };
+    if !is_family(family) {
+        return none;
+    }
+    if 65536 < capture.len() {
+        return none;
+    }
+    let mut at = place;
+    while at < capture.len() {
+        let First::At(start, size, frame) = first_good(family, capture, at) else {
+            return none;
+        };
+        at = start + size;
+        if reports {
+            let Frame::Status(_) = frame else {
+                continue;
+            };
+        }
+        return Span {
+            start,
+            size,
+            behind: at,
+        };
+    }
+    none
+}

@@ -1,0 +1,120 @@
+// The steps of a walk along the starts of a capture: how long the good frame here is, with nothing more
+// to come, and where the next start is that may be good. Nothing of a frame is kept.
+use spe::is_ack;
+use spe::is_command;
+use spe::is_status;
+use texts::text;
+ghost use mathlib.Core.Path.{_≡_};
+ghost use mathlib.Core.Bool.{false};
+ghost use Prim.Native.Nat.{_+_, min, _≤_, _<_};
+ghost use lib.ListN.{length, drop};
+ghost use Rattle.stream_rules.specs.Heads.{payloadRun};
+ghost use Rattle.captures.specs.Sizes.{sizeAt, Passes};
+
+// How long the good command at the head is; 0 where there is none. Its bytes are looked at together:
+// most starts that are tried are good.
+pub(crate) fn command_size(s: &[u8]) -> usize
+    ensures { λ r. ⌜ r ≡ sizeAt 3 (now (s .entry)) ⌝ }
+{
+    if s.len() < 6 {
+        return 0;
+    }
+    if is_command(&s[..6]) {
+        return 6;
+    }
+    0
+}
+
+// How long the good acknowledgement or report at the head is; 0 where there is none. The count tells
+// which it can be.
+pub(crate) fn reply_size(s: &[u8]) -> usize
+    ensures { λ r. ⌜ r ≡ sizeAt 1 (now (s .entry)) ⌝ }
+{
+    if s.len() < 6 {
+        return 0;
+    }
+    let count = s[3];
+    if count == 0x01 {
+        if is_ack(&s[..6]) {
+            return 6;
+        }
+        return 0;
+    }
+    if count != 0x43 {
+        return 0;
+    }
+    if s.len() < 75 {
+        return 0;
+    }
+    // nearly all that only begin as a report are turned away by its end
+    if !((s[73] == 0x0D) & (s[74] == 0x0A)) {
+        return 0;
+    }
+    if is_status(&s[..75]) {
+        return 75;
+    }
+    0
+}
+
+// False only where no good sentence starts, by what stands in its name's place: that begins with an A, and no
+// digit is below 0.
+pub(crate) fn may_be_sentence(s: &[u8]) -> bool
+    ensures { λ r. ⌜ (r ≡ false → 0 ≡ sizeAt 2 (now (s .entry))) ⌝ }
+{
+    if s.len() < 6 {
+        return false;
+    }
+    if s[1] != b'A' {
+        return false;
+    }
+    b'0' <= s[5]
+}
+
+// How long the good sentence at the head is, with n payload bytes behind its first byte; 0 where there
+// is none.
+pub(crate) fn sentence_size(s: &[u8], n: usize) -> usize
+    requires { ⌜ n ≡ min (length (payloadRun (drop 1 (now s)))) 129 ⌝ }
+    ensures { λ r. ⌜ r ≡ sizeAt 2 (now (s .entry)) ⌝ }
+{
+    if 128 < n {
+        return 0;
+    }
+    if s.len() < n + 6 {
+        return 0;
+    }
+    if s[n + 1] != b'*' {
+        return 0;
+    }
+    if alpha::is_sentence(text(s, 0, n + 6)) {
+        return n + 6;
+    }
+    0
+}
+
+// The first start from a place on that has no mark in its count's place, or that fewer than six bytes are left
+// for: no count is a mark.
+fn past_marks(s: &[u8], from: usize) -> usize
+    requires { ⌜ from ≤ length (now s) ⌝ }
+    ensures { λ r. ⌜ Passes 3 (now (s .entry)) from r ⌝ }
+{
+    let mut at = from;
+    while 6 <= s.len() - at {
+        if s[at + 3] != 0x55 {
+            return at;
+        }
+        at += 1;
+    }
+    at
+}
+
+// Behind a start with no command, the next at which one may stand. Where no mark stands in a count's place, none
+// starts in the three places behind the start.
+pub(crate) fn next_command(s: &[u8], from: usize) -> usize
+    requires { ⌜ (from + 6 ≤ length (now s)) × (0 ≡ sizeAt 3 (drop from (now s))) ⌝ }
+    ensures { λ r. ⌜ (from < r) × Passes 3 (now (s .entry)) from r ⌝ }
+{
+    if s[from + 3] != 0x55 {
+        return past_marks(s, from + 4);
+    }
+    past_marks(s, from + 1)
+}

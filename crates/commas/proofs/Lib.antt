@@ -1,2 +1,0 @@
--- Laws of the texts between commas.
-pub mod Commas

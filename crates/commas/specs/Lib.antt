@@ -1,2 +1,0 @@
--- Where a field ends.
-pub mod Commas

@@ -1,9 +1,0 @@
--- `Fed` has what a call and the row of its answer say of the reader that is left, `Laid` the same where there is room for every row,
--- `Front` and `Few` what the calls do that have ways of their own, `Begun` which calls decide nothing, and `Single` that the promise leaves
--- one number, one reader and one row.
-pub mod Fed
-pub mod Laid
-pub mod Front
-pub mod Few
-pub mod Begun
-pub mod Single

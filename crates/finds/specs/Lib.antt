@@ -1,2 +1,0 @@
--- What a capture reader gives next.
-pub mod Finds

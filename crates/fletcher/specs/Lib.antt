@@ -1,2 +1,0 @@
--- What the pass over a payload gives back.
-pub mod Sums

@@ -1,0 +1,168 @@
+-- Demand 2 for the Alpha's sentences: the reader of one frame is exact, each record in range reads back the same once
+-- written, and what was read gives its own bytes if, and only if, it stood in the writer's form.
+-- A sentence is its number and its texts in a frame that holds nothing else, so what is left are the laws of each kind
+-- of record; the argument from them is made once, over the kind and its number. Assumes nothing.
+use Prim.Native.Nat.{ℕ, _<_}
+use mathlib.Core.Path.{_≡_, refl, sym, _∙_, ap, ap₂, subst}
+use mathlib.Core.Bool.{Bool, true, false, cond, false≢true}
+use mathlib.Core.List.{List}
+use mathlib.Core.Logic.{_↔_, _≢_}
+use native.Mathlib.Omega.{arith}
+use lib.Dec.{eqb, lit<}
+use borrow.Author.Tests.{eqb-true, eqb-false, ne-eqb}
+use Rattle.rules.specs.Numbers.{withZeros}
+use Rattle.rules.specs.Sentences.{isSentence, payloadOf, numberOf, textsOf, is02, is03, is05, sentence02, sentence03, sentence05, inRange02, inRange03, inRange05, texts02, texts03, texts05, sentenceFrame}
+use Rattle.rules.specs.Answers.{readTexts, readFamily2, readOne, notGood, familyOf, allowed, bytesOf, hasWriter}
+use Rattle.rules.specs.Form.{inForm}
+use Rattle.rules.specs.declared.Frame.{Frame}
+use Rattle.rules.specs.declared.Frame.the-variants.{Ack, Status, Command, Apa02, Apa03, Apa05, Other}
+use Rattle.rules.specs.declared.Reading.{Reading}
+use Rattle.rules.specs.declared.Reading.the-variants.{Good, Refused}
+use Rattle.frame_laws.proofs.Sentences.{payload, payload-good, payload-texts, payload-number, payload-parts, payload-back, frame-sentence, sentence-payload, sentence-frame}
+use Rattle.frame_laws.proofs.SentenceRecords.{Kind, kind02, kind03, kind05}
+
+-- The texts ts of a sentence numbered n say this frame: 02, 03 or 05 where they keep its field rules, and its record
+-- holds their values; any other number says itself. No sentence says a frame of another family.
+abbrev pub Says : ℕ → List (List ℕ) → Frame → Type 0
+Says n ts (Ack c) = ⊥
+Says n ts (Status s) = ⊥
+Says n ts (Command c) = ⊥
+Says n ts (Apa02 r) = (n ≡ 2) × (is02 ts ≡ true) × (r ≡ sentence02 ts)
+Says n ts (Apa03 r) = (n ≡ 3) × (is03 ts ≡ true) × (r ≡ sentence03 ts)
+Says n ts (Apa05 r) = (n ≡ 5) × (is05 ts ≡ true) × (r ≡ sentence05 ts)
+Says n ts (Other m) = (n ≢ 2) × (n ≢ 3) × (n ≢ 5) × (m ≡ n)
+
+-- The bytes are a sentence that says this frame.
+abbrev pub IsFrame : List ℕ → Frame → Type 0
+IsFrame bs f = (isSentence bs ≡ true) × Says (numberOf (payloadOf bs)) (textsOf (payloadOf bs)) f
+
+-- What an answer tells of the bytes: a frame, that they are it; a refusal, that its number is 8.
+abbrev Tells : List ℕ → Reading → Type 0
+Tells bs (Good f) = IsFrame bs f
+Tells bs (Refused m) = m ≡ notGood
+
+-- what each of two answers tells where the test gives it, the chosen one tells
+choice : (P : Reading → Type 0) (test : Bool) (x y : Reading) → (test ≡ true → P x) → (test ≡ false → P y) → P (cond test x y)
+choice P true x y passed failed = passed refl
+choice P false x y passed failed = failed refl
+
+tells : (bs : List ℕ) → Tells bs (readOne 2 bs)
+unfolding readOne readFamily2 readTexts
+tells bs =
+    let n = numberOf (payloadOf bs) in
+    let ts = textsOf (payloadOf bs) in
+    choice (Tells bs) (isSentence bs) _ _
+    (λ s. choice (Tells bs) (eqb n 2) _ _
+    (λ e2. choice (Tells bs) (is02 ts) _ _ (λ good. (s, (eqb-true n 2 e2, good, refl))) (λ bad. refl))
+    (λ n2. choice (Tells bs) (eqb n 3) _ _
+    (λ e3. choice (Tells bs) (is03 ts) _ _ (λ good. (s, (eqb-true n 3 e3, good, refl))) (λ bad. refl))
+    (λ n3. choice (Tells bs) (eqb n 5) _ _
+    (λ e5. choice (Tells bs) (is05 ts) _ _ (λ good. (s, (eqb-true n 5 e5, good, refl))) (λ bad. refl))
+    (λ n5. (s, (eqb-false n 2 n2, eqb-false n 3 n3, eqb-false n 5 n5, refl))))))
+    (λ no-sentence. refl)
+
+says : (n : ℕ) (ts : List (List ℕ)) (f : Frame) → Says n ts f → readTexts n ts ≡ Good f
+unfolding readTexts
+says n ts (Ack c) h = absurd h
+says n ts (Status s) h = absurd h
+says n ts (Command c) h = absurd h
+says n ts (Apa02 r) h = rw (h .0, h .1, h .2)
+says n ts (Apa03 r) h = rw (h .0, h .1, h .2)
+says n ts (Apa05 r) h = rw (h .0, h .1, h .2)
+says n ts (Other m) h = rw (ne-eqb n 2 (h .0), ne-eqb n 3 (h .1), ne-eqb n 5 (h .2), h .3)
+
+reads : (bs : List ℕ) → isSentence bs ≡ true → readOne 2 bs ≡ readTexts (numberOf (payloadOf bs)) (textsOf (payloadOf bs))
+unfolding readOne readFamily2
+reads bs good = ap (λ b. cond b (readTexts (numberOf (payloadOf bs)) (textsOf (payloadOf bs))) (Refused notGood)) good
+
+-- Bytes are read as a frame exactly where they are a sentence that says it;
+pub family2-exact : (bs : List ℕ) (f : Frame) → (readOne 2 bs ≡ Good f) ↔ IsFrame bs f
+family2-exact bs f =
+    (λ e. subst (Tells bs) e (tells bs), λ h. reads bs (h .0) ∙ says (numberOf (payloadOf bs)) (textsOf (payloadOf bs)) f (h .1))
+
+-- where they are no such sentence, and only there, they are refused, with number 8.
+pub family2-refused : (bs : List ℕ) (n : ℕ) → (readOne 2 bs ≡ Refused n) ↔ (((f : Frame) → IsFrame bs f → ⊥) × (n ≡ notGood))
+family2-refused bs n =
+    (λ e. (λ f h. never f (family2-exact bs f .1 h) e, subst (Tells bs) e (tells bs)), λ h. by-answer h (readOne 2 bs) refl (tells bs))
+  where
+    never : (f : Frame) → readOne 2 bs ≡ Good f → readOne 2 bs ≡ Refused n → ⊥
+    never f g r = let z : _≡_ {A = ℕ} 0 1 = cc in omega arith
+
+    by-answer : ((f : Frame) → IsFrame bs f → ⊥) × (n ≡ notGood) → (a : Reading) → readOne 2 bs ≡ a → Tells bs a → readOne 2 bs ≡ Refused n
+    by-answer h (Good f) e t = absurd (h .0 f t)
+    by-answer h (Refused m) e t = e ∙ ap Refused (t ∙ sym (h .1))
+
+-- The argument for a kind of record and its number. What is written of a record in range is a sentence of that number
+-- with the texts written,
+module _ {R : Type 0} {is : List (List ℕ) → Bool} {read : List (List ℕ) → R} {write : R → List (List ℕ)} {inRange : R → Bool}
+    {form : List (List ℕ) → Bool} (kind : Kind is read write inRange form) (n : ℕ) (two-digits : n < 100) where
+  texts-back : (r : R) → inRange r ≡ true → textsOf (payloadOf (sentenceFrame (payload n (write r)))) ≡ write r
+  texts-back r fits = ap textsOf (payload-back (payload n (write r))) ∙ payload-texts n (write r) two-digits (kind .clean r fits)
+
+  reads-written : (r : R) → inRange r ≡ true → readOne 2 (sentenceFrame (payload n (write r))) ≡ readTexts n (write r)
+  reads-written r fits =
+      let p = payload n (write r) in
+      let clean = kind .clean r fits in
+      reads (sentenceFrame p) (frame-sentence p (payload-good n (write r) two-digits clean (kind .short r fits)))
+      ∙ ap₂ readTexts (ap numberOf (payload-back p) ∙ payload-number n (write r) two-digits clean) (texts-back r fits)
+
+  -- and a sentence of that number is what is written of its record exactly where its texts stood in the writer's form.
+  written-again : (bs : List ℕ) → isSentence bs ≡ true → numberOf (payloadOf bs) ≡ n → is (textsOf (payloadOf bs)) ≡ true
+      → (sentenceFrame (payload n (write (read (textsOf (payloadOf bs))))) ≡ bs) ↔ (form (textsOf (payloadOf bs)) ≡ true)
+  written-again bs sentence number good =
+      let p = payloadOf bs in
+      let ts = textsOf p in
+      let fits = kind .range ts good in
+      let parts = sentence-frame bs sentence ∙ ap sentenceFrame (payload-parts p (sentence-payload bs sentence)) in
+      let own : sentenceFrame (payload n ts) ≡ bs = ap (λ m. sentenceFrame (payload m ts)) (sym number) ∙ sym parts in (
+        λ e. subst (λ us. form us ≡ true) (sym (texts-back (read ts) fits) ∙ ap (λ b. textsOf (payloadOf b)) e) (kind .full (read ts) fits),
+        λ full. ap (λ us. sentenceFrame (payload n us)) (kind .again ts good full) ∙ own,
+      )
+
+-- A record in range, once written, reads back the same. (An "other" sentence has no writer, and is never allowed.)
+pub family2-back : (f : Frame) → familyOf f ≡ 2 → allowed f ≡ true → readOne (familyOf f) (bytesOf f) ≡ Good f
+unfolding allowed bytesOf withZeros
+family2-back (Ack c) alpha fits = absurd (omega arith)
+family2-back (Status s) alpha fits = absurd (omega arith)
+family2-back (Command c) alpha fits = absurd (omega arith)
+family2-back (Apa02 r) alpha fits =
+    reads-written kind02 2 (lit< tt) r fits ∙ says 2 (texts02 r) (Apa02 r) (refl, kind02 .good r fits, sym (kind02 .back r fits))
+family2-back (Apa03 r) alpha fits =
+    reads-written kind03 3 (lit< tt) r fits ∙ says 3 (texts03 r) (Apa03 r) (refl, kind03 .good r fits, sym (kind03 .back r fits))
+family2-back (Apa05 r) alpha fits =
+    reads-written kind05 5 (lit< tt) r fits ∙ says 5 (texts05 r) (Apa05 r) (refl, kind05 .good r fits, sym (kind05 .back r fits))
+family2-back (Other n) alpha fits = absurd (false≢true fits)
+
+-- What was read and has a writer may be written,
+pub family2-allowed : (bs : List ℕ) (f : Frame) → readOne 2 bs ≡ Good f → hasWriter f ≡ true → allowed f ≡ true
+unfolding allowed
+family2-allowed bs (Ack c) e writer = absurd (family2-exact bs (Ack c) .0 e .1)
+family2-allowed bs (Status s) e writer = absurd (family2-exact bs (Status s) .0 e .1)
+family2-allowed bs (Command c) e writer = absurd (family2-exact bs (Command c) .0 e .1)
+family2-allowed bs (Apa02 r) e writer =
+    let h = family2-exact bs (Apa02 r) .0 e .1 in
+    ap inRange02 (h .2) ∙ kind02 .range (textsOf (payloadOf bs)) (h .1)
+family2-allowed bs (Apa03 r) e writer =
+    let h = family2-exact bs (Apa03 r) .0 e .1 in
+    ap inRange03 (h .2) ∙ kind03 .range (textsOf (payloadOf bs)) (h .1)
+family2-allowed bs (Apa05 r) e writer =
+    let h = family2-exact bs (Apa05 r) .0 e .1 in
+    ap inRange05 (h .2) ∙ kind05 .range (textsOf (payloadOf bs)) (h .1)
+family2-allowed bs (Other n) e writer = absurd (false≢true writer)
+
+-- and gives its own bytes if, and only if, it stood in the writer's form.
+pub family2-again : (bs : List ℕ) (f : Frame) → readOne 2 bs ≡ Good f → hasWriter f ≡ true → (bytesOf f ≡ bs) ↔ (inForm f bs ≡ true)
+unfolding bytesOf inForm withZeros
+family2-again bs (Ack c) e writer = absurd (family2-exact bs (Ack c) .0 e .1)
+family2-again bs (Status s) e writer = absurd (family2-exact bs (Status s) .0 e .1)
+family2-again bs (Command c) e writer = absurd (family2-exact bs (Command c) .0 e .1)
+family2-again bs (Apa02 r) e writer =
+    let h = family2-exact bs (Apa02 r) .0 e in
+    rw (h .1 .2) (written-again kind02 2 (lit< tt) bs (h .0) (h .1 .0) (h .1 .1))
+family2-again bs (Apa03 r) e writer =
+    let h = family2-exact bs (Apa03 r) .0 e in
+    rw (h .1 .2) (written-again kind03 3 (lit< tt) bs (h .0) (h .1 .0) (h .1 .1))
+family2-again bs (Apa05 r) e writer =
+    let h = family2-exact bs (Apa05 r) .0 e in
+    rw (h .1 .2) (written-again kind05 5 (lit< tt) bs (h .0) (h .1 .0) (h .1 .1))
+family2-again bs (Other n) e writer = absurd (false≢true writer)

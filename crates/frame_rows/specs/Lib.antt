@@ -1,2 +1,0 @@
--- A frame that is read and laid as a row.
-pub mod ReadRows

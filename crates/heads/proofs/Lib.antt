@@ -1,2 +1,0 @@
--- `Starts` turns the laws of heads into what is seen.
-pub mod Starts

@@ -1,3 +1,0 @@
--- Laws of tables and of hexadecimal digits.
-pub mod Table
-pub mod Digits

@@ -1,2 +1,0 @@
--- What the digits' functions give back.
-pub mod Hex

@@ -1,2 +1,0 @@
--- `Steps` has what a loop over a list needs: its next element, and its end.
-pub mod Steps

@@ -1,2 +1,0 @@
--- What the leaves give back.
-pub mod Leaves

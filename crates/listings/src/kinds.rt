@@ -1,0 +1,41 @@
+// The words for a kind of frame. Each function lays text into a lent line at a place and gives the place behind it; what
+// has no room is left out.
+use lines::hex_byte;
+use lines::text;
+use rules::Frame;
+ghost use mathlib.Core.List.{[], _∷_};
+ghost use Rattle.rules.specs.Numbers.{hexDigits};
+ghost use Rattle.lines.specs.Lines.{Types};
+ghost use Rattle.listings.specs.Kinds.{sentenceTexts, kindTexts};
+
+// What kind of frame it is: `ack XX`, `status`, `command XX` or `APAnn`.
+pub fn kind(line: &mut [u8], at: usize, frame: Frame) -> usize
+    ensures { λ r. ⌜ Types (kindTexts frame) (now (line .entry)) at (now (line .exit)) r ⌝ }
+{
+    match frame {
+        Frame::Ack(code) => coded(line, at, b"ack ", code),
+        Frame::Status(_) => text(line, at, b"status"),
+        Frame::Command(code) => coded(line, at, b"command ", code),
+        Frame::Apa02(_) => sentence(line, at, 2),
+        Frame::Apa03(_) => sentence(line, at, 3),
+        Frame::Apa05(_) => sentence(line, at, 5),
+        Frame::Other(n) => sentence(line, at, n),
+    }
+}
+
+// A word, and a code behind it.
+fn coded(line: &mut [u8], at: usize, word: &[u8], code: u8) -> usize
+    ensures { λ r. ⌜ Types (now (word .entry) ∷ hexDigits code ∷ []) (now (line .entry)) at (now (line .exit)) r ⌝ }
+{
+    let place = text(line, at, word);
+    hex_byte(line, place, code)
+}
+
+// A sentence by its number.
+fn sentence(line: &mut [u8], at: usize, n: u8) -> usize
+    ensures { λ r. ⌜ Types (sentenceTexts n) (now (line .entry)) at (now (line .exit)) r ⌝ }
+{
+    let two = n % 100;
+    let name = [b'A', b'P', b'A', b'0' + two / 10, b'0' + two % 10];
+    text(line, at, &name)
+}

@@ -1,2 +1,0 @@
--- `Rows` has what the reader of a number needs.
-pub mod Rows

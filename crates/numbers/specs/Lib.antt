@@ -1,2 +1,0 @@
--- What the numbers in fields give back.
-pub mod Fields

@@ -1,2 +1,0 @@
--- A part of a capture as texts.
-pub mod Parts

@@ -1,0 +1,13 @@
+// The records' fields as numbers, in document 01's order, and whether a record holds only what its fields can carry.
+mod fields;
+mod ranges;
+mod report;
+
+pub use fields::of_02;
+pub use fields::of_03;
+pub use fields::of_05;
+pub use fields::of_status;
+pub use ranges::in_range02;
+pub use ranges::in_range03;
+pub use ranges::in_range05;
+pub use report::status_in_range;

@@ -1,0 +1,57 @@
+-- What the writer answered of a frame says which texts are to be shown: its bytes, or a dash. The room lent for them is
+-- enough, since no frame is longer than 75 bytes.
+-- Assumes nothing.
+use Prim.Native.Nat.{ℕ, _≤_}
+use mathlib.Core.Path.{_≡_}
+use mathlib.Core.Bool.{true, false, cond}
+use mathlib.Core.List.{List, [], _∷_}
+use mathlib.Core.Logic.{⊎-elim}
+use native.Mathlib.Omega.{arith}
+use borrow.Author.Tests.{le-leb}
+use lib.ListN.{length}
+use lib.Seq.{take-append-seam}
+use Rattle.rules.specs.Bytes.{ascii, part}
+use Rattle.rules.specs.Answers.{Writes, allowed, notAllowed, bytesOf}
+use Rattle.rules.specs.declared.Frame.{Frame}
+use Rattle.rules.specs.declared.Frame.the-variants.{Ack, Status, Command, Apa02, Apa03, Apa05, Other}
+use Rattle.rules.specs.declared.Written.{Written}
+use Rattle.rules.specs.declared.Written.the-variants.{Length, Refused}
+use Rattle.frame_laws.proofs.Bytes.{answer}
+use Rattle.spe_writer.proofs.Report.{report-length}
+use Rattle.alpha_writer.proofs.Sentence.{length02, length03, length05}
+use Rattle.lines.specs.Lines.{hexTexts}
+use Rattle.replays.specs.Texts.{writtenTexts}
+
+pub longest : (f : Frame) → length (bytesOf f) ≤ 75
+unfolding bytesOf
+longest (Ack c) = omega arith
+longest (Status s) = omega (arith, report-length s)
+longest (Command c) = omega arith
+longest (Apa02 r) = omega (arith, length02 r)
+longest (Apa03 r) = omega (arith, length03 r)
+longest (Apa05 r) = omega (arith, length05 r)
+longest (Other n) = omega arith
+
+module _ (f : Frame) {out after : List ℕ} {given : Written} (w : Writes (allowed f) (notAllowed f) (bytesOf f) out given after) (room : length (bytesOf f) ≤ length out) where
+  pub bytes-shown : (n : ℕ) → given ≡ Length n → hexTexts (part 0 n after) ≡ writtenTexts f
+  unfolding writtenTexts
+  bytes-shown n e = ⊎-elim yes no (answer (allowed f))
+    where
+      yes : allowed f ≡ true → hexTexts (part 0 n after) ≡ cond (allowed f) (hexTexts (bytesOf f)) (ascii "-" ∷ [])
+      yes a =
+          let size : n ≡ length (bytesOf f) = cc (rw (a, le-leb _ _ room) at (w .answers)) in
+          rw (a, size, rw (a, le-leb _ _ room) at (w .content), take-append-seam)
+
+      no : allowed f ≡ false → hexTexts (part 0 n after) ≡ cond (allowed f) (hexTexts (bytesOf f)) (ascii "-" ∷ [])
+      no a =
+          let z : _≡_ {A = ℕ} 0 1 = cc (rw a at (w .answers)) in
+          absurd (omega arith)
+
+  pub dash-shown : (k : ℕ) → given ≡ Refused k → ascii "-" ∷ [] ≡ writtenTexts f
+  unfolding writtenTexts
+  dash-shown k e = ⊎-elim yes (λ a. rw a) (answer (allowed f))
+    where
+      yes : allowed f ≡ true → ascii "-" ∷ [] ≡ cond (allowed f) (hexTexts (bytesOf f)) (ascii "-" ∷ [])
+      yes a =
+          let z : _≡_ {A = ℕ} 0 1 = cc (rw (a, le-leb _ _ room) at (w .answers)) in
+          absurd (omega arith)

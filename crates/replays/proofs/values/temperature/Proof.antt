@@ -1,0 +1,84 @@
+-- `show::records::temperature` meets its contract: its two branches are the two cases of its texts.
+-- Assumes nothing.
+use mathlib.Core.Path.{_≡_, refl}
+use mathlib.Core.Bool.{true, false, true≢false}
+use mathlib.Core.List.{[], _∷_}
+use native.Mathlib.Omega.{arith}
+use borrow.Author.Tests.{ltb-true}
+use borrow.Author.Needs.{needs}
+use lib.IntN.{ℤ, pos, negsuc, natAbs}
+use lib.Signed.{ltZ}
+use mir.Syntax.{w32}
+use mir.ValLaws.{toZ-ofZ}
+use Rattle.rules.specs.Bytes.{ascii}
+use Rattle.lines.specs.Lines.{decimalText, spacedTexts}
+use Rattle.lines.proofs.Typed.{_then_}
+use Rattle.replays.specs.Texts.{temperatureTexts}
+use Rattle.replays.proofs.values.temperature.Statement.{statement}
+use Rattle.replays.proofs.values.temperature.Tie as tie
+
+below : (z : ℤ) → ltZ z (pos 0) ≡ true → temperatureTexts z ≡ ascii " -" ∷ decimalText (natAbs z) ∷ []
+unfolding temperatureTexts
+below (pos n) e = absurd (omega (arith, ltb-true n 0 e))
+below (negsuc n) e = refl
+
+not-below : (z : ℤ) → ltZ z (pos 0) ≡ false → temperatureTexts z ≡ spacedTexts (natAbs z)
+unfolding temperatureTexts
+not-below (pos n) e = refl
+not-below (negsuc n) e = absurd (true≢false e)
+
+slice-aggregate-text : tie.Need-slice-aggregate-text
+slice-aggregate-text c = search needs
+
+text-requires : tie.Need-text-requires
+text-requires c κs = search needs
+
+size-requires : tie.Need-size-requires
+size-requires c κs = search needs
+
+number-requires : tie.Need-number-requires
+number-requires c κs = search needs
+
+same-length : tie.Need-same-length
+same-length c = search needs
+
+returns : tie.Need-returns
+returns c =
+    let n = c .before .before in
+    let t = n .before .before .before .before .before in
+    let s = t .before .before .before in
+    let a = s .before .before in
+    let read = toZ-ofZ w32 (a .args .z) (a .fits .z) in
+    rw (below (a .args .z) (rw read at (s .if1 .taken))) (t .text .ensures then rw (n .before .size .ensures, read) at (n .number .ensures))
+
+size-requires-2 : tie.Need-size-requires-2
+size-requires-2 c κs = search needs
+
+spaced-requires : tie.Need-spaced-requires
+spaced-requires c κs = search needs
+
+same-length-2 : tie.Need-same-length-2
+same-length-2 c = search needs
+
+returns-2 : tie.Need-returns-2
+returns-2 c =
+    let n = c .before .before in
+    let s = n .before .before .before in
+    let a = s .before .before in
+    let read = toZ-ofZ w32 (a .args .z) (a .fits .z) in
+    rw (not-below (a .args .z) (rw read at (s .if1 .left))) (rw (n .before .size2 .ensures, read) at (n .spaced .ensures))
+
+pub temperature-spec : {M : Type 1} → statement M
+temperature-spec =
+    tie.close
+    (tie.spec
+    slice-aggregate-text
+    text-requires
+    size-requires
+    number-requires
+    same-length
+    returns
+    size-requires-2
+    spaced-requires
+    same-length-2
+    returns-2)

@@ -1,0 +1,242 @@
+-- A frame that may be written is given by its own kind, code and values: what was read can be written again from its
+-- numbers. Each value fits its field by the rules of the record. Assumes nothing.
+use Prim.Native.Nat.{ℕ, zero, suc, _≤_}
+use mathlib.Core.Path.{_≡_, refl, ap}
+use mathlib.Core.Bool.{Bool, true, false, cond, and-eq-true-iff, false≢true}
+use mathlib.Core.List.{List, [], _∷_, map}
+use native.Mathlib.Omega.{arith}
+use borrow.Author.Tests.{leb-true, ltb-true, le-leb}
+use lib.Dec.{eqb, leb}
+use lib.IntN.{ℤ, pos, negsuc, natAbs}
+use lib.ListN.{getD}
+use Rattle.rules.specs.Bytes.{ascii, oneOf, every}
+use Rattle.rules.specs.Status.{by, statusInRange, warnings, alarms}
+use Rattle.rules.specs.Sentences.{fit, numbers02, inRange02, numbers03, inRange03, inRange05}
+use Rattle.rules.specs.Answers.{numbers05, values, allowed}
+use Rattle.rules.specs.declared.Status as StatusType
+use Rattle.rules.specs.declared.Sentence02.{Sentence02}
+use Rattle.rules.specs.declared.Sentence03.{Sentence03}
+use Rattle.rules.specs.declared.Sentence05.{Sentence05}
+use Rattle.rules.specs.declared.Frame.{Frame}
+use Rattle.rules.specs.declared.Frame.the-variants.{Ack, Status, Command, Apa02, Apa03, Apa05, Other}
+use Rattle.frame_laws.proofs.Bytes.{tests, both-pass, one-of-these}
+use Rattle.frame_laws.proofs.Report.{fits}
+use Rattle.rows.specs.Rows.{frameKind, frameCode}
+use Rattle.row_writer.specs.Given.{upTo, aTemperature, numberUpTo, temperatureOf, valueAt, isStatusRow, isRow02, isRow03, isRow05, statusFrom, from02, from03, from05, sentenceFrom, frameOf}
+
+-- Numbers up to a limit, as values: they pass the test, and each is kept.
+abbrev Each : ℕ → List ℕ → Type 0
+Each limit [] = Unit
+Each limit (n ∷ ns) = (n ≤ limit) × Each limit ns
+
+module _ (limit : ℕ) where
+  pass : (ns : List ℕ) → Each limit ns → every (upTo limit) (map pos ns) ≡ true
+  unfolding every
+  pass [] h = refl
+  pass (n ∷ ns) h = both-pass (leb n limit) (every (upTo limit) (map pos ns)) (le-leb n limit (h .0)) (pass ns (h .1))
+
+  kept : (ns : List ℕ) → Each limit ns → (i : ℕ) → numberUpTo limit (valueAt (map pos ns) i) ≡ getD ns i 0
+  kept [] h i = rw (le-leb 0 limit (omega arith))
+  kept (n ∷ ns) h zero = rw (le-leb n limit (h .0))
+  kept (n ∷ ns) h (suc i) = kept ns (h .1) i
+
+abbrev Words : List ℕ → Type 0
+Words ns = Each 0xFFFFFFFF ns
+
+abbrev AllBytes : List ℕ → Type 0
+AllBytes ns = Each 255 ns
+
+-- Sentence 02.
+module _ (r : Sentence02) (e : inRange02 r ≡ true) where
+  words02 : Words (numbers02 r)
+  unfolding inRange02 fit numbers02
+  words02 = let h = simp and-eq-true-iff at e in omega (arith, ltb-true)
+
+  row02 : isRow02 (values (Apa02 r)) ≡ true
+  unfolding isRow02 numbers02
+  row02 = pass 0xFFFFFFFF (numbers02 r) words02
+
+  record02 : from02 (values (Apa02 r)) ≡ r
+  unfolding from02 numbers02
+  record02 =
+      let k = kept 0xFFFFFFFF (numbers02 r) words02 in
+      λ i. record {
+        pfwd = k 0 i;
+        swr = k 1 i;
+        pin = k 2 i;
+        vp = k 3 i;
+        ip = k 4 i;
+        gain = k 5 i;
+        vg = k 6 i;
+        ig = k 7 i;
+        band = k 8 i;
+        state = k 9 i;
+        fault = k 10 i;
+        key = k 11 i;
+        pep = k 12 i;
+      }
+
+  back02 : frameOf 4 2 (values (Apa02 r)) ≡ Apa02 r
+  unfolding frameOf sentenceFrom
+  back02 = rw row02 (ap Apa02 record02)
+
+-- Sentence 03: a temperature of four digits fits 32 bits with its sign.
+small-temperature : (z : ℤ) → natAbs z ≤ 9999 → aTemperature z ≡ true
+small-temperature (pos n) h = le-leb n 0x7FFFFFFF (omega arith)
+small-temperature (negsuc n) h = le-leb n 0x7FFFFFFF (omega arith)
+
+module _ (r : Sentence03) (e : inRange03 r ≡ true) where
+  words03 : Words (numbers03 r)
+  unfolding inRange03 fit numbers03
+  words03 = let h = simp and-eq-true-iff at e in omega (arith, ltb-true)
+
+  temperature03 : aTemperature (r .temp) ≡ true
+  unfolding inRange03
+  temperature03 = small-temperature (r .temp) (search (tests, leb-true))
+
+  row03 : isRow03 (values (Apa03 r)) ≡ true
+  unfolding isRow03 numbers03
+  row03 = both-pass _ _ (pass 0xFFFFFFFF (numbers03 r) words03) temperature03
+
+  record03 : from03 (values (Apa03 r)) ≡ r
+  unfolding from03 numbers03
+  record03 =
+      let k = kept 0xFFFFFFFF (numbers03 r) words03 in
+      let temp : temperatureOf (r .temp) ≡ r .temp = rw temperature03 in
+      λ i. record {
+        v5 = k 0 i;
+        v12 = k 1 i;
+        v24 = k 2 i;
+        m12 = k 3 i;
+        v40 = k 4 i;
+        acline = k 5 i;
+        mbstatus = k 6 i;
+        mbtap = k 7 i;
+        temp = temp i;
+      }
+
+  back03 : frameOf 4 3 (values (Apa03 r)) ≡ Apa03 r
+  unfolding frameOf sentenceFrom
+  back03 = rw row03 (ap Apa03 record03)
+
+-- Sentence 05.
+module _ (r : Sentence05) (e : inRange05 r ≡ true) where
+  bytes05 : AllBytes (numbers05 r)
+  unfolding inRange05
+  bytes05 = let h = simp and-eq-true-iff at e in omega (arith, leb-true)
+
+  row05 : isRow05 (values (Apa05 r)) ≡ true
+  unfolding isRow05
+  row05 = pass 255 (numbers05 r) bytes05
+
+  record05 : from05 (values (Apa05 r)) ≡ r
+  unfolding from05
+  record05 =
+      let k = kept 255 (numbers05 r) bytes05 in
+      λ i. record {
+        band = k 0 i;
+        segment = k 1 i;
+        memory = k 2 i;
+        antenna = k 3 i;
+        meter = k 4 i;
+        control = k 5 i;
+        options = k 6 i;
+        state = k 7 i;
+        wtime = k 8 i;
+        tcmd = k 9 i;
+        lcmd = k 10 i;
+      }
+
+  back05 : frameOf 4 5 (values (Apa05 r)) ≡ Apa05 r
+  unfolding frameOf sentenceFrom
+  back05 = rw row05 (ap Apa05 record05)
+
+-- The status report: ten bytes, eight words, two bytes. Its letters are bytes.
+letter : (cs : List ℕ) (b : ℕ) → every (λ c. leb c 255) cs ≡ true → oneOf cs b ≡ true → b ≤ 255
+letter cs b small e = leb-true b 255 (one-of-these (λ c. leb c 255) cs b small e)
+
+bank-letters : (t : Bool) → every (λ c. leb c 255) (cond t (ascii "x") (ascii "AB")) ≡ true
+unfolding every
+bank-letters true = refl
+bank-letters false = refl
+
+abbrev settings : StatusType.Status → List ℕ
+settings s = s .id ∷ s .state ∷ s .direction ∷ s .bank ∷ s .input ∷ s .band ∷ s .transmit ∷ s .tuner ∷ s .receive ∷ s .level ∷ []
+
+abbrev readings : StatusType.Status → List ℕ
+readings s = s .watts ∷ s .swratu ∷ s .swrant ∷ s .volts ∷ s .amperes ∷ s .upper ∷ s .lower ∷ s .combiner ∷ []
+
+abbrev signs : StatusType.Status → List ℕ
+signs s = s .warning ∷ s .alarm ∷ []
+
+module _ (s : StatusType.Status) (e : statusInRange s ≡ true) where
+  settings-bytes : AllBytes (settings s)
+  unfolding statusInRange every
+  settings-bytes =
+      let f = fits s e in
+      let state = letter (ascii "SO") (s .state) refl (search tests depth 25) in
+      let direction = letter (ascii "RT") (s .direction) refl (search tests depth 25) in
+      let bank = letter (by (s .id) (ascii "x") (ascii "AB")) (s .bank) (bank-letters (eqb (s .id) 20)) (search tests depth 25) in
+      let tuner = letter (ascii "tba") (s .tuner) refl (search tests depth 25) in
+      let level = letter (ascii "LMH") (s .level) refl (search tests depth 25) in
+      omega arith
+
+  readings-words : Words (readings s)
+  readings-words = let f = fits s e in omega arith
+
+  signs-bytes : AllBytes (signs s)
+  unfolding statusInRange every
+  signs-bytes =
+      let warning = letter warnings (s .warning) refl (search tests depth 25) in
+      let alarm = letter alarms (s .alarm) refl (search tests depth 25) in
+      omega arith
+
+  status-row : isStatusRow (values (Status s)) ≡ true
+  unfolding isStatusRow
+  status-row =
+      both-pass _ _
+      (both-pass _ _ (pass 255 (settings s) settings-bytes) (pass 0xFFFFFFFF (readings s) readings-words))
+      (pass 255 (signs s) signs-bytes)
+
+  status-record : statusFrom (values (Status s)) ≡ s
+  unfolding statusFrom
+  status-record =
+      let a = kept 255 (settings s) settings-bytes in
+      let b = kept 0xFFFFFFFF (readings s) readings-words in
+      let c = kept 255 (signs s) signs-bytes in
+      λ i. record {
+        id = a 0 i;
+        state = a 1 i;
+        direction = a 2 i;
+        bank = a 3 i;
+        input = a 4 i;
+        band = a 5 i;
+        transmit = a 6 i;
+        tuner = a 7 i;
+        receive = a 8 i;
+        level = a 9 i;
+        watts = b 0 i;
+        swratu = b 1 i;
+        swrant = b 2 i;
+        volts = b 3 i;
+        amperes = b 4 i;
+        upper = b 5 i;
+        lower = b 6 i;
+        combiner = b 7 i;
+        warning = c 0 i;
+        alarm = c 1 i;
+      }
+
+  back-status : frameOf 2 0 (values (Status s)) ≡ Status s
+  unfolding frameOf
+  back-status = rw status-row (ap Status status-record)
+
+pub given-back : (f : Frame) → allowed f ≡ true → frameOf (frameKind f) (frameCode f) (values f) ≡ f
+unfolding allowed frameOf
+given-back (Ack c) e = refl
+given-back (Status s) e = back-status s e
+given-back (Command c) e = refl
+given-back (Apa02 r) e = back02 r e
+given-back (Apa03 r) e = back03 r e
+given-back (Apa05 r) e = back05 r e
+given-back (Other n) e = absurd (false≢true e)

@@ -1,0 +1,60 @@
+-- `given::frame_given` meets its contract: the kind picks the frame, and a code that it holds is a byte.
+-- Assumes nothing.
+use mathlib.Core.Path.{sym, ap, _∙_}
+use native.Mathlib.Omega.{arith}
+use borrow.Author.Needs.{needs}
+use Rattle.rules.specs.declared.Frame.the-variants.{Status}
+use Rattle.row_writer.proofs.Frames.{held, dropped, as-ack, as-status, as-command, as-sentence, no-kind, ack-byte, command-byte}
+use Rattle.row_writer.proofs.frame_given.Statement.{statement}
+use Rattle.row_writer.proofs.frame_given.Tie as tie
+
+cast-t5 : tie.Need-cast-t5
+cast-t5 c = record { fits = omega (arith, ack-byte (c .before .args .kind) (c .before .args .code) (c .before .pre) (c .if1 .taken)) }
+
+returns : tie.Need-returns
+returns c = as-ack _ _ _ (c .if1 .taken)
+
+is-status-row-requires : tie.Need-is-status-row-requires
+is-status-row-requires c κs = search needs
+
+status-from-requires : tie.Need-status-from-requires
+status-from-requires c κs = search needs
+
+returns-2 : tie.Need-returns-2
+returns-2 c = held (sym (c .before .before .is-status-row .ensures) ∙ c .before .if3 .taken) (ap Status (c .status-from .ensures)) ∙ as-status _ _ _ (c .before .before .before .if2 .taken)
+
+returns-3 : tie.Need-returns-3
+returns-3 c = dropped _ (sym (c .before .is-status-row .ensures) ∙ c .if3 .left) ∙ as-status _ _ _ (c .before .before .if2 .taken)
+
+cast-t8 : tie.Need-cast-t8
+cast-t8 c =
+    let start = c .before .before .before in
+    record { fits = omega (arith, command-byte (start .args .kind) (start .args .code) (start .pre) (c .if4 .taken)) }
+
+returns-4 : tie.Need-returns-4
+returns-4 c = as-command _ _ _ (c .if4 .taken)
+
+sentence-given-requires : tie.Need-sentence-given-requires
+sentence-given-requires c κs = search needs
+
+returns-5 : tie.Need-returns-5
+returns-5 c = c .sentence-given .ensures ∙ as-sentence _ _ _ (c .before .if5 .taken)
+
+returns-6 : tie.Need-returns-6
+returns-6 c = no-kind _ _ _ (c .before .before .before .if1 .left) (c .before .before .if2 .left) (c .before .if4 .left) (c .if5 .left)
+
+pub frame-given-spec : {M : Type 1} → statement M
+frame-given-spec =
+    tie.close
+    (tie.spec
+    cast-t5
+    returns
+    is-status-row-requires
+    status-from-requires
+    returns-2
+    returns-3
+    cast-t8
+    returns-4
+    sentence-given-requires
+    returns-5
+    returns-6)

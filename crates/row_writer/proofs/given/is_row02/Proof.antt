@@ -1,0 +1,30 @@
+-- `given::records::is_row02` meets its contract: the length first, then the values of the record.
+-- Assumes nothing.
+use mathlib.Core.Path.{sym}
+use native.Mathlib.Omega.{arith}
+use borrow.Author.Needs.{needs}
+use borrow.Author.Tests.{le-leb, lt-leb}
+use lib.ListN.{length}
+use lib.Seq.{length-take-le}
+use Rattle.row_writer.specs.Given.{isRow02}
+use Rattle.row_writer.proofs.given.is_row02.Statement.{statement}
+use Rattle.row_writer.proofs.given.is_row02.Tie as tie
+
+returns : tie.Need-returns
+unfolding isRow02
+returns c = rw (lt-leb 13 (length (c .before .args .values .now)) (c .if1 .taken))
+
+slice-aggregate-fit : tie.Need-slice-aggregate-fit
+slice-aggregate-fit c = sym (length-take-le 13 (c .before .before .args .values .now) (omega arith))
+
+fit-requires : tie.Need-fit-requires
+fit-requires c κs = search needs
+
+returns-2 : tie.Need-returns-2
+unfolding isRow02
+returns-2 c =
+    let t = c .before .before in
+    rw (le-leb 13 (length (t .before .args .values .now)) (t .if1 .left)) (c .fit .ensures)
+
+pub is-row02-spec : {M : Type 1} → statement M
+is-row02-spec = tie.close (tie.spec returns slice-aggregate-fit fit-requires returns-2)

@@ -1,0 +1,114 @@
+// The writers for a caller that gives plain numbers: a frame by its kind, its code and a row of
+// values, and a place for the length. The answer is 0, or the number for no.
+mod fits;
+mod given;
+
+use crate::given::from02;
+use crate::given::from03;
+use crate::given::from05;
+use crate::given::is_row02;
+use crate::given::is_row03;
+use crate::given::is_row05;
+use crate::given::is_status_row;
+use crate::given::status_from;
+use rules::Frame;
+use rules::Written;
+ghost use mathlib.Core.Path.{_≡_};
+ghost use mathlib.Core.Bool.{true, false, _&&_, _||_};
+ghost use lib.Dec.{eqb, ltb};
+ghost use Rattle.rules.specs.Answers.{Writes, noRoom, allowed, notAllowed, bytesOf, saidToWrite};
+ghost use Rattle.rules.specs.Sentences.{enableBytes};
+ghost use Rattle.rows.specs.Rows.{refusalOf};
+ghost use Rattle.row_writer.specs.Given.{sentenceFrom, frameOf, lengthOr, WritesNumbers, WritesGiven};
+
+// A frame by the writer of its kind; another sentence has none.
+pub fn write_frame(f: Frame, out: &mut [u8]) -> Written
+    ensures { λ r. ⌜ Writes (allowed f) (notAllowed f) (bytesOf f) (now (out .entry)) r (now (out .exit)) ⌝ }
+{
+    match f {
+        Frame::Ack(code) => spe_writer::write_ack(code, out),
+        Frame::Status(s) => spe_writer::write_status(s, out),
+        Frame::Command(code) => spe_writer::write_command(code, out),
+        Frame::Apa02(r) => alpha_writer::write_02(r, out),
+        Frame::Apa03(r) => alpha_writer::write_03(r, out),
+        Frame::Apa05(r) => alpha_writer::write_05(r, out),
+        Frame::Other(_) => Written::Refused(3),
+    }
+}
+
+// The sentence of a number, where the row fits its record.
+fn sentence_given(number: u32, values: &[i64]) -> Frame
+    ensures { λ r. ⌜ r ≡ sentenceFrom number (now (values .entry)) ⌝ }
+{
+    if number == 2 {
+        if is_row02(values) {
+            return Frame::Apa02(from02(values));
+        }
+        return Frame::Other(0);
+    }
+    if number == 3 {
+        if is_row03(values) {
+            return Frame::Apa03(from03(values));
+        }
+        return Frame::Other(0);
+    }
+    if number == 5 {
+        if is_row05(values) {
+            return Frame::Apa05(from05(values));
+        }
+    }
+    Frame::Other(0)
+}
+
+// The frame of a kind. A code that a frame holds has to be a byte.
+fn frame_given(kind: u32, code: u32, values: &[i64]) -> Frame
+    requires { ⌜ (ltb 255 code && (eqb kind 1 || eqb kind 3)) ≡ false ⌝ }
+    ensures { λ r. ⌜ r ≡ frameOf kind code (now (values .entry)) ⌝ }
+{
+    if kind == 1 {
+        return Frame::Ack(code as u8);
+    }
+    if kind == 2 {
+        if is_status_row(values) {
+            return Frame::Status(status_from(values));
+        }
+        return Frame::Other(0);
+    }
+    if kind == 3 {
+        return Frame::Command(code as u8);
+    }
+    if kind == 4 {
+        return sentence_given(code, values);
+    }
+    Frame::Other(0)
+}
+
+// A writer's answer as a number; its length goes to the lent place.
+fn tell(answer: Written, length: &mut usize) -> u32
+    ensures { λ r. ⌜ (r ≡ refusalOf (saidToWrite answer)) × (now (length .exit) ≡ lengthOr (now (length .entry)) answer) ⌝ }
+{
+    match answer {
+        Written::Length(n) => {
+            *length = n;
+            0
+        }
+        Written::Refused(n) => n as u32,
+    }
+}
+
+// The frame that the numbers give. A code above 255 is none: refusal 2.
+pub fn write_given(kind: u32, code: u32, values: &[i64], out: &mut [u8], length: &mut usize) -> u32
+    ensures { λ r. ⌜ WritesGiven kind code (now (values .entry)) (now (out .entry)) (now (length .entry)) r (now (out .exit)) (now (length .exit)) ⌝ }
+{
+    if (255 < code) & ((kind == 1) | (kind == 3)) {
+        return 2;
+    }
+    tell(write_frame(frame_given(kind, code, values), out), length)
+}
+
+// The bytes that enable the Alpha.
+pub fn write_enable_given(out: &mut [u8], length: &mut usize) -> u32
+    ensures { λ r. ⌜ WritesNumbers true noRoom enableBytes (now (out .entry)) (now (length .entry)) r (now (out .exit)) (now (length .exit)) ⌝ }
+{
+    tell(alpha_writer::write_enable(out), length)
+}

@@ -1,0 +1,238 @@
+// A frame, and what a call answers, as a row of numbers laid at the front of lent memory. The values
+// of a frame stand behind the row's first six numbers.
+use records::of_02;
+use records::of_03;
+use records::of_05;
+use records::of_status;
+use rules::Frame;
+use rules::Reading;
+use rules::Sentence03;
+use stream_rules::Answer;
+ghost use mathlib.Core.Path.{_≡_};
+ghost use mathlib.Core.List.{[], _∷_, _++_, map};
+ghost use lib.IntN.{pos};
+ghost use lib.ListN.{length};
+ghost use Prim.Native.Nat.{_+_, _≤_};
+ghost use Rattle.rules.specs.Answers.{said, values};
+ghost use Rattle.rules.specs.Sentences.{numbers03};
+ghost use Rattle.stream_rules.specs.Streams.{saidToFeed};
+ghost use Rattle.rows.specs.Rows.{frameKind, frameCode, counted, head, row, rowFed, rowAt, laidAt, LaysRow, Lays};
+
+// The numbers from a place on.
+fn put_numbers(numbers: &mut [i64], at: usize, what: &[u32])
+    requires { ⌜ at + length (now what) ≤ length (now numbers) ⌝ }
+    ensures { λ _. ⌜ now (numbers .exit) ≡ laidAt at (map pos (now (what .entry))) (now (numbers .entry)) ⌝ }
+{
+    let mut i = 0;
+    while i < what.len() {
+        numbers[at + i] = what[i] as i64;
+        i += 1;
+    }
+}
+
+// A count, modulo 2^63.
+fn count(n: usize) -> i64
+    ensures { λ r. ⌜ r ≡ counted n ⌝ }
+{
+    (n % 0x8000_0000_0000_0000) as i64
+}
+
+// The first number of a frame's row.
+fn kind(frame: Frame) -> u32
+    ensures { λ r. ⌜ r ≡ frameKind frame ⌝ }
+{
+    match frame {
+        Frame::Ack(_) => 1,
+        Frame::Status(_) => 2,
+        Frame::Command(_) => 3,
+        Frame::Apa02(_) => 4,
+        Frame::Apa03(_) => 4,
+        Frame::Apa05(_) => 4,
+        Frame::Other(_) => 4,
+    }
+}
+
+// The second number of a frame's row.
+fn code(frame: Frame) -> u32
+    ensures { λ r. ⌜ r ≡ frameCode frame ⌝ }
+{
+    match frame {
+        Frame::Ack(code) => code as u32,
+        Frame::Status(_) => 0,
+        Frame::Command(code) => code as u32,
+        Frame::Apa02(_) => 2,
+        Frame::Apa03(_) => 3,
+        Frame::Apa05(_) => 5,
+        Frame::Other(n) => n as u32,
+    }
+}
+
+// The values of sentence 03; the last of them has a sign.
+fn put_03(numbers: &mut [i64], r: Sentence03)
+    requires { ⌜ 15 ≤ length (now numbers) ⌝ }
+    ensures { λ _. ⌜ now (numbers .exit) ≡ laidAt 6 (map pos (numbers03 r) ++ r .temp ∷ []) (now (numbers .entry)) ⌝ }
+{
+    let what = of_03(r);
+    put_numbers(numbers, 6, &what);
+    numbers[14] = r.temp as i64;
+}
+
+// The frame's values, behind the six numbers in front of them.
+fn put_values(numbers: &mut [i64], frame: Frame)
+    requires { ⌜ 6 + length (values frame) ≤ length (now numbers) ⌝ }
+    ensures { λ _. ⌜ now (numbers .exit) ≡ laidAt 6 (values frame) (now (numbers .entry)) ⌝ }
+{
+    match frame {
+        Frame::Status(s) => put_numbers(numbers, 6, &of_status(s)),
+        Frame::Apa02(r) => put_numbers(numbers, 6, &of_02(r)),
+        Frame::Apa03(r) => put_03(numbers, r),
+        Frame::Apa05(r) => put_numbers(numbers, 6, &of_05(r)),
+        Frame::Ack(_) => {}
+        Frame::Command(_) => {}
+        Frame::Other(_) => {}
+    }
+}
+
+// The first six numbers of a row.
+fn put_head(
+    numbers: &mut [i64],
+    kind: u32,
+    code: u32,
+    taken: usize,
+    start: u32,
+    skipped: u32,
+    size: usize,
+)
+    requires { ⌜ 6 ≤ length (now numbers) ⌝ }
+    ensures { λ _. ⌜ now (numbers .exit) ≡ laidAt 0 (head kind code taken start skipped size) (now (numbers .entry)) ⌝ }
+{
+    let what = [kind, code, 0, start, skipped, 0];
+    put_numbers(numbers, 0, &what);
+    numbers[2] = count(taken);
+    numbers[5] = count(size);
+}
+
+// How long a frame's row is: its values behind the six numbers.
+fn row_length(frame: Frame) -> usize
+    ensures { λ r. ⌜ r ≡ 6 + length (values frame) ⌝ }
+{
+    match frame {
+        Frame::Ack(_) => 6,
+        Frame::Status(_) => 26,
+        Frame::Command(_) => 6,
+        Frame::Apa02(_) => 19,
+        Frame::Apa03(_) => 15,
+        Frame::Apa05(_) => 17,
+        Frame::Other(_) => 6,
+    }
+}
+
+// The row of a frame. Refusal 4 where it has no room. (The frame comes alone: in a struct it would be
+// copied once more.)
+fn lay_frame(
+    frame: Frame,
+    taken: usize,
+    start: u32,
+    skipped: u32,
+    size: usize,
+    numbers: &mut [i64],
+) -> u32
+    ensures { λ r. ⌜ LaysRow (row taken start skipped size frame) (now (numbers .entry)) r (now (numbers .exit)) ⌝ }
+{
+    if numbers.len() < row_length(frame) {
+        return 4;
+    }
+    put_head(
+        numbers,
+        kind(frame),
+        code(frame),
+        taken,
+        start,
+        skipped,
+        size,
+    );
+    put_values(numbers, frame);
+    0
+}
+
+// A row that has no values: its six numbers. Refusal 4 where they have no room.
+pub fn lay_head(
+    kind: u32,
+    code: u32,
+    taken: usize,
+    start: u32,
+    skipped: u32,
+    size: usize,
+    numbers: &mut [i64],
+) -> u32
+    ensures { λ r. ⌜ LaysRow (head kind code taken start skipped size) (now (numbers .entry)) r (now (numbers .exit)) ⌝ }
+{
+    if numbers.len() < 6 {
+        return 4;
+    }
+    put_head(numbers, kind, code, taken, start, skipped, size);
+    0
+}
+
+// A row with these values, with the same refusal.
+pub fn lay_values(
+    kind: u32,
+    code: u32,
+    taken: usize,
+    start: u32,
+    skipped: u32,
+    size: usize,
+    values: &[u32],
+    numbers: &mut [i64],
+) -> u32
+    ensures { λ r. ⌜ LaysRow (head kind code taken start skipped size ++ map pos (now (values .entry))) (now (numbers .entry)) r (now (numbers .exit)) ⌝ }
+{
+    if numbers.len() < 6 {
+        return 4;
+    }
+    if numbers.len() - 6 < values.len() {
+        return 4;
+    }
+    put_head(numbers, kind, code, taken, start, skipped, size);
+    put_numbers(numbers, 6, values);
+    0
+}
+
+// What a call on a stream answered.
+pub fn lay_answer(answer: Answer, numbers: &mut [i64]) -> u32
+    ensures { λ r. ⌜ Lays (saidToFeed answer) (rowFed answer) (now (numbers .entry)) r (now (numbers .exit)) ⌝ }
+{
+    match answer {
+        Answer::Ready(ready) => {
+            let frame = ready.frame;
+            lay_frame(
+                frame,
+                ready.taken,
+                ready.start,
+                ready.skipped,
+                ready.length,
+                numbers,
+            )
+        }
+        Answer::More(taken) => lay_head(5, 0, taken, 0, 0, 0, numbers),
+        Answer::Done(taken) => lay_head(6, 0, taken, 0, 0, 0, numbers),
+        Answer::Refused(n) => n as u32,
+    }
+}
+
+// What a reader of one frame answered, as the row of a frame of that size that was handed out so.
+pub fn lay_reading(
+    reading: Reading,
+    taken: usize,
+    start: u32,
+    skipped: u32,
+    size: usize,
+    numbers: &mut [i64],
+) -> u32
+    ensures { λ r. ⌜ Lays (said reading) (rowAt taken start skipped size reading) (now (numbers .entry)) r (now (numbers .exit)) ⌝ }
+{
+    match reading {
+        Reading::Good(frame) => lay_frame(frame, taken, start, skipped, size, numbers),
+        Reading::Refused(n) => n as u32,
+    }
+}

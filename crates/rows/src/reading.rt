@@ -1,0 +1,58 @@
+// Reads one frame and lays its row. What a reply or a command says goes from its bytes to the row: no record is made
+// of it, which would have to be copied, and a copy waits for the bytes just written.
+use crate::laying::lay_head;
+use crate::laying::lay_reading;
+use crate::laying::lay_values;
+use alpha::read_sentence;
+use spe::is_ack;
+use spe::is_command;
+use spe::read_numbers;
+ghost use Rattle.rows.specs.ReadRows.{ReadsRowAt};
+
+// An acknowledgement or a report, or refusal 8.
+fn reply_row(bytes: &[u8], taken: usize, start: u32, skipped: u32, numbers: &mut [i64]) -> u32
+    ensures { λ r. ⌜ ReadsRowAt 1 (now (bytes .entry)) taken start skipped (now (numbers .entry)) r (now (numbers .exit)) ⌝ }
+{
+    let size = bytes.len();
+    if is_ack(bytes) {
+        return lay_head(1, bytes[4] as u32, taken, start, skipped, size, numbers);
+    }
+    let report = read_numbers(bytes);
+    if !report.good {
+        return 8;
+    }
+    let values = report.numbers;
+    lay_values(2, 0, taken, start, skipped, size, &values, numbers)
+}
+
+// A command, or refusal 8.
+fn command_row(bytes: &[u8], taken: usize, start: u32, skipped: u32, numbers: &mut [i64]) -> u32
+    ensures { λ r. ⌜ ReadsRowAt 3 (now (bytes .entry)) taken start skipped (now (numbers .entry)) r (now (numbers .exit)) ⌝ }
+{
+    let size = bytes.len();
+    if is_command(bytes) {
+        return lay_head(3, bytes[4] as u32, taken, start, skipped, size, numbers);
+    }
+    8
+}
+
+// The frame that the bytes are, as a whole, laid as a row with these bytes taken, this start and these bytes
+// skipped; refusal 1, then 8, then 4 where the row has no room.
+pub fn read_row(
+    family: u8,
+    bytes: &[u8],
+    taken: usize,
+    start: u32,
+    skipped: u32,
+    numbers: &mut [i64],
+) -> u32
+    ensures { λ r. ⌜ ReadsRowAt family (now (bytes .entry)) taken start skipped (now (numbers .entry)) r (now (numbers .exit)) ⌝ }
+{
+    let size = bytes.len();
+    match family {
+        1 => reply_row(bytes, taken, start, skipped, numbers),
+        2 => lay_reading(read_sentence(bytes), taken, start, skipped, size, numbers),
+        3 => command_row(bytes, taken, start, skipped, numbers),
+        _ => 1,
+    }
+}

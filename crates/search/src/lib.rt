@@ -1,0 +1,237 @@
+// Walks the starts of some bytes: to the first that is not bad, or to the first good frame. Starts that a byte
+// further on rules out are passed together; any other is examined once, and a frame is read only where
+// nothing rules it out. `laying` has the same search with the row of what it finds.
+
+use frames::read_frame;
+use rules::Frame;
+use rules::Reading;
+use spe::is_ack;
+use spe::is_command;
+use starts::Seen;
+use starts::examine;
+use starts::mark_of;
+use texts::further;
+ghost use mathlib.Core.Path.{_≡_};
+ghost use mathlib.Core.Bool.{true, false};
+ghost use Prim.Native.Nat.{_≤_, _<_};
+ghost use lib.ListN.{length, getD};
+ghost use Rattle.rules.specs.Answers.{isGood, readOne};
+ghost use Rattle.search.specs.Sought.{soughtIn, firstFrom, Unmarked, Stops};
+
+// A good frame whose earlier starts are all bad: its place, its length, how far the bytes reach that
+// settled it and those, and what it says.
+pub struct Hit {
+    pub start: usize,
+    pub length: usize,
+    pub reach: usize,
+    pub frame: Frame,
+}
+
+// The first start that is not bad: a good frame, or the place of an undecided one.
+pub enum Sought {
+    Ready(Hit),
+    Waiting(usize),
+}
+
+// The first good frame: its place, its length, and what it says.
+pub enum First {
+    At(usize, usize, Frame),
+    Nothing,
+}
+
+// True only of bytes that are no good packet or report: an end that is not a report's, or a code that is not
+// allowed or does not stand twice. The values of a report are not looked at.
+fn ruled_out(family: u8, s: &[u8]) -> bool
+    requires { ⌜ (family ≡ 2 → ⊥) ⌝ }
+    ensures { λ r. ⌜ (r ≡ true → isGood (readOne family (now (s .entry))) ≡ false) ⌝ }
+{
+    if s.len() == 75 {
+        return !((s[73] == 0x0D) & (s[74] == 0x0A));
+    }
+    if family == 3 {
+        return !is_command(s);
+    }
+    !is_ack(s)
+}
+
+// A start that is not passed over: its place, the size of the frame that may stand there, and how far the
+// bytes reach that settled the starts before it, exact where that is behind the six bytes that any frame
+// there has. The size is 0 where the start is undecided, or the bytes end.
+pub struct Stop {
+    pub at: usize,
+    pub size: usize,
+    pub reach: usize,
+}
+
+// Whether a mark stands where the count of a start would.
+fn mark_for_count(mark: u8, start: &[u8]) -> bool
+    ensures { λ r. ⌜ (r ≡ true → (4 ≤ length (now (start .entry))) × (getD (now (start .entry)) 3 0 ≡ mark)) ⌝ }
+    ensures { λ r. ⌜ (r ≡ false → 4 ≤ length (now (start .entry)) → getD (now (start .entry)) 3 0 ≡ mark → ⊥) ⌝ }
+{
+    if start.len() < 4 {
+        return false;
+    }
+    start[3] == mark
+}
+
+// How many starts are passed over with a bad one, itself among them, that has so many bytes and no mark for its
+// count: no frame starts at the count's byte or at the two before it. With fewer than four bytes there is no
+// such byte.
+fn passed_with(left: usize) -> usize
+    ensures { λ r. ⌜ (4 ≤ left → r ≡ 4) × (left < 4 → r ≡ 1) ⌝ }
+{
+    if 4 <= left {
+        return 4;
+    }
+    1
+}
+
+// True only where no mark stands in a block of 16 bytes. No byte ends the loop, so that it can be compiled to test all
+// of them at once.
+fn no_mark(mark: u8, block: &[u8]) -> bool
+    requires { ⌜ length (now block) ≡ 16 ⌝ }
+    ensures { λ r. ⌜ (r ≡ true → Unmarked mark (now (block .entry)) 0 16) ⌝ }
+{
+    let mut none = true;
+    let mut i = 0;
+    while i < 16 {
+        none = none & (block[i] != mark);
+        i += 1;
+    }
+    none
+}
+
+// A place behind whole blocks without a mark: no frame starts in them. Among commands, which are shorter than a block,
+// there are next to none, and none is looked for.
+fn past_unmarked(family: u8, mark: u8, s: &[u8], from: usize) -> usize
+    requires { ⌜ from ≤ length (now s) ⌝ }
+    ensures { λ r. ⌜ (from ≤ r) × (r ≤ length (now (s .entry))) × Unmarked mark (now (s .entry)) from r ⌝ }
+{
+    if family != 1 {
+        return from;
+    }
+    let mut at = from;
+    while 16 <= s.len() - at {
+        if !no_mark(mark, &s[at..at + 16]) {
+            return at;
+        }
+        at += 16;
+    }
+    at
+}
+
+// The first stop from a place on, of packets and reports. No count is a mark.
+fn packet_stop(family: u8, s: &[u8], from: usize, far: usize) -> Stop
+    requires { ⌜ (family ≡ 2 → ⊥) ⌝ }
+    ensures { λ r. ⌜ Stops family (now (s .entry)) from far r ⌝ }
+{
+    let mark = mark_of(family);
+    let mut at = from;
+    let mut reach = far;
+    while at < s.len() {
+        if mark_for_count(mark, &s[at..]) {
+            at += 1; // three marks may begin at the next byte
+            continue;
+        }
+        match examine(family, &s[at..]) {
+            Seen::Whole(size) => {
+                if !ruled_out(family, &s[at..at + size]) {
+                    return Stop { at, size, reach };
+                }
+                reach = further(reach, at + size);
+                at += 4; // its count is no mark
+                continue;
+            }
+            Seen::Undecided => return Stop { at, size: 0, reach },
+            Seen::Bad(_) => {}
+        }
+        at = past_unmarked(family, mark, s, at + passed_with(s.len() - at));
+    }
+    Stop { at, size: 0, reach }
+}
+
+// The same of sentences. Before the byte that settled a bad one there is no other `$`; and what settles a start
+// never reaches behind a frame that starts later.
+fn sentence_stop(s: &[u8], from: usize, far: usize) -> Stop
+    ensures { λ r. ⌜ Stops 2 (now (s .entry)) from far r ⌝ }
+{
+    let mut at = from;
+    while at < s.len() {
+        // most starts are bad by their first byte
+        if s[at] != b'$' {
+            at += 1;
+            continue;
+        }
+        match examine(2, &s[at..]) {
+            Seen::Whole(size) => return Stop {
+                at,
+                size,
+                reach: far,
+            },
+            Seen::Undecided => return Stop {
+                at,
+                size: 0,
+                reach: far,
+            },
+            Seen::Bad(d) => {
+                at += d - 1;
+            }
+        }
+    }
+    Stop {
+        at,
+        size: 0,
+        reach: far,
+    }
+}
+
+// The first start from a place on that is undecided, or of which the reader of one frame has to decide. (Only
+// numbers go in and come back, so that nothing is copied; the caller reads the frame.)
+pub fn next_stop(family: u8, s: &[u8], from: usize, far: usize) -> Stop
+    ensures { λ r. ⌜ Stops family (now (s .entry)) from far r ⌝ }
+{
+    if family == 2 {
+        return sentence_stop(s, from, far);
+    }
+    packet_stop(family, s, from, far)
+}
+
+// The first start that is not bad.
+pub fn seek(family: u8, s: &[u8]) -> Sought
+    ensures { λ r. ⌜ r ≡ soughtIn family (now (s .entry)) ⌝ }
+{
+    let mut stop = next_stop(family, s, 0, 0);
+    while stop.size != 0 {
+        let at = stop.at;
+        let size = stop.size;
+        if let Reading::Good(frame) = read_frame(family, &s[at..at + size]) {
+            return Sought::Ready(Hit {
+                start: at,
+                length: size,
+                reach: further(stop.reach, at + size),
+                frame,
+            });
+        }
+        stop = next_stop(family, s, at + 1, further(stop.reach, at + size));
+    }
+    Sought::Waiting(stop.at)
+}
+
+// The first good frame from a place on, with nothing more to come.
+pub fn first_good(family: u8, s: &[u8], from: usize) -> First
+    ensures { λ r. ⌜ r ≡ firstFrom family (now (s .entry)) from ⌝ }
+{
+    let mut stop = next_stop(family, s, from, 0);
+    while stop.at < s.len() {
+        let at = stop.at;
+        let size = stop.size;
+        // an undecided start is no frame here
+        if size != 0 {
+            if let Reading::Good(frame) = read_frame(family, &s[at..at + size]) {
+                return First::At(at, size, frame);
+            }
+        }
+        stop = next_stop(family, s, at + 1, 0);
+    }
+    First::Nothing
+}

@@ -1,3 +1,0 @@
--- What a walk along starts finds, and the row of it.
-pub mod Sought
-pub mod RowSought

@@ -1,0 +1,103 @@
+-- `status_tests::is_report` meets its contract: its tests are those of the bytes in front and behind. The sum of 67 bytes does
+-- not wrap.
+-- Assumes nothing.
+use Prim.Native.Nat.{ℕ, _/_, _%_, _^_}
+use mathlib.Core.Path.{_≡_, sym, ap, _∙_}
+use mathlib.Core.Bool.{_&&_}
+use mathlib.Core.List.{List}
+use native.Mathlib.Nat.{mod-eq-of-lt}
+use native.Mathlib.Omega.{arith}
+use borrow.Author.Needs.{needs}
+use borrow.Author.Tests.{not-true, not-false}
+use lib.Dec.{eqb}
+use lib.ListN.{length, drop}
+use Rattle.rules.specs.Bytes.{total}
+use Rattle.rules.specs.Status.{dataOf}
+use Rattle.frame_laws.proofs.Lists.{AreBytes, bytes-take, bytes-drop, total-below}
+use Rattle.spe.proofs.ReportFrames.{data-length, not-framed, bad-front, bad-ends, good-ends}
+use Rattle.spe.proofs.status.is_report.Statement.{statement}
+use Rattle.spe.proofs.status.is_report.Tie as tie
+
+module _ (s : List ℕ) (h : length s ≡ 75) where
+  -- the sum that was taken is the total itself
+  exact : AreBytes s → (n : ℕ) → n ≡ total (dataOf s) % 2 ^ 32 → n ≡ total (dataOf s)
+  exact b n e = e ∙ mod-eq-of-lt (omega (arith, total-below (dataOf s) (bytes-take 67 (drop 4 s) (bytes-drop 4 s b)), data-length s h))
+
+returns : tie.Need-returns
+returns c = sym (not-framed _ (c .if1 .taken))
+
+shared-slice-read-if2 : tie.Need-shared-slice-read-if2
+shared-slice-read-if2 c = search needs
+
+shared-slice-read-if2-2 : tie.Need-shared-slice-read-if2-2
+shared-slice-read-if2-2 c = search needs
+
+shared-slice-read-if2-3 : tie.Need-shared-slice-read-if2-3
+shared-slice-read-if2-3 c = search needs
+
+shared-slice-read-if2-4 : tie.Need-shared-slice-read-if2-4
+shared-slice-read-if2-4 c = search needs
+
+returns-2 : tie.Need-returns-2
+returns-2 c =
+    let d = c .before .before .before .before .before in
+    sym (bad-front _ (d .if1 .left) (not-true _ (c .if2 .taken)))
+
+shared-slice-read-if3 : tie.Need-shared-slice-read-if3
+shared-slice-read-if3 c = search needs
+
+shared-slice-read-if3-2 : tie.Need-shared-slice-read-if3-2
+shared-slice-read-if3-2 c = search needs
+
+returns-3 : tie.Need-returns-3
+returns-3 c =
+    let d = c .before .before .before .before .before .before .before .before in
+    sym (bad-ends _ (d .if1 .left) (not-true _ (c .if3 .taken)))
+
+text-requires : tie.Need-text-requires
+text-requires c κs = search needs
+
+sum-requires : tie.Need-sum-requires
+sum-requires c κs = search needs
+
+shared-slice-read-wide : tie.Need-shared-slice-read-wide
+shared-slice-read-wide c = search needs
+
+wide-requires : tie.Need-wide-requires
+wide-requires c κs = search needs
+
+shared-slice-read-wide-2 : tie.Need-shared-slice-read-wide-2
+shared-slice-read-wide-2 c = search needs
+
+wide-requires-2 : tie.Need-wide-requires-2
+wide-requires-2 c κs = search needs
+
+returns-4 : tie.Need-returns-4
+returns-4 c =
+    let d = c .before .before .before .before .before .before in
+    let one = d .before .before .before .before .before .before .before .before in
+    let s = one .before .before .args .s .now in
+    let total-is = exact s (one .if1 .left) (λ k. one .before .shared-slice-known .given k .fits) _ (c .before .before .before .before .sum .ensures ∙ ap (λ (l : List ℕ). total l % 2 ^ 32) (c .before .before .before .before .before .text .ensures .content)) in
+    (λ i. eqb (c .before .before .wide .ensures i) (total-is i % 256) && eqb (c .wide2 .ensures i) (total-is i / 256))
+    ∙ sym (good-ends s (one .if1 .left) (not-false _ (d .before .before .before .if2 .left)) (not-false _ (d .if3 .left)))
+
+pub is-report-spec : {M : Type 1} → statement M
+is-report-spec =
+    tie.close
+    (tie.spec
+    returns
+    shared-slice-read-if2
+    shared-slice-read-if2-2
+    shared-slice-read-if2-3
+    shared-slice-read-if2-4
+    returns-2
+    shared-slice-read-if3
+    shared-slice-read-if3-2
+    returns-3
+    text-requires
+    sum-requires
+    shared-slice-read-wide
+    wide-requires
+    shared-slice-read-wide-2
+    wide-requires-2
+    returns-4)

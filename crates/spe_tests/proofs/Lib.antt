@@ -1,2 +1,0 @@
--- `Frames` has when bytes are a packet.
-pub mod Frames

@@ -1,0 +1,120 @@
+-- `heads::examine_sentence` meets its contract: its tests go along the rules for a start of a sentence. A count that stops
+-- at 129 tells as much of the payload bytes as the rules ask.
+-- Assumes nothing.
+use Prim.Native.Nat.{ℕ, _+_, min}
+use mathlib.Core.Path.{_≡_, ap, _∙_}
+use mathlib.Core.List.{List}
+use native.Mathlib.Omega.{arith}
+use borrow.Author.Needs.{needs}
+use lib.ListN.{length}
+use Rattle.stream_rules.specs.Heads.{payloadRun}
+use Rattle.stream_laws.proofs.Lists.{whole-rest}
+use Rattle.stream_laws.proofs.Runs.{run}
+use Rattle.stream_laws.proofs.SentenceStarts.{nothing, no-dollar, too-long, payload-open, no-star, digits-missing, all-there}
+use Rattle.starts.proofs.Seeing.{undecided, bad-start, by-whole}
+use Rattle.starts.proofs.heads.examine_sentence.Statement.{statement}
+use Rattle.starts.proofs.heads.examine_sentence.Tie as tie
+
+-- the count of payload bytes behind the first byte
+counted : (c : tie.After-payload-bytes) → c .payload-bytes .result ≡ min (run (c .before .before .before .before .before .before .args .s .now)) 129
+counted c =
+    let bytes = c .before .before .before .before .before .before .args .s .now in
+    c .payload-bytes .ensures
+    ∙ ap (λ (l : List ℕ). min (length (payloadRun l)) 129) (whole-rest bytes 1)
+
+-- where it is at most 128, it is the run itself
+exact : (c : tie.Else3) → run (c .before .before .before .before .before .before .before .args .s .now) ≡ c .before .payload-bytes .result
+exact c = omega (arith, counted (c .before))
+
+returns : tie.Need-returns
+returns c =
+    let bytes = c .before .before .args .s .now in
+    undecided 2 bytes (nothing bytes (c .if1 .taken))
+
+shared-slice-read-if2 : tie.Need-shared-slice-read-if2
+shared-slice-read-if2 c = search needs
+
+returns-2 : tie.Need-returns-2
+returns-2 c =
+    let bytes = c .before .before .before .before .args .s .now in
+    bad-start 2 bytes 1 (no-dollar bytes (omega arith) (c .if2 .taken)) (λ same. omega (arith, same))
+
+sub-payload-bytes : tie.Need-sub-payload-bytes
+sub-payload-bytes c = search needs
+
+part-payload-bytes-start : tie.Need-part-payload-bytes-start
+part-payload-bytes-start c = search needs
+
+part-payload-bytes-end : tie.Need-part-payload-bytes-end
+part-payload-bytes-end c = search needs
+
+payload-bytes-requires : tie.Need-payload-bytes-requires
+payload-bytes-requires c κs = search needs
+
+returns-3 : tie.Need-returns-3
+returns-3 c =
+    let bytes = c .before .before .before .before .before .before .before .args .s .now in
+    bad-start 2 bytes 130 (too-long bytes (c .before .before .before .if2 .left) (omega (arith, counted (c .before)))) (λ same. omega (arith, same, counted (c .before)))
+
+add-if4 : tie.Need-add-if4
+add-if4 c = search needs
+
+returns-4 : tie.Need-returns-4
+returns-4 c =
+    let bytes = c .before .before .before .before .before .before .before .before .args .s .now in
+    undecided 2 bytes (payload-open bytes (c .before .before .before .before .if2 .left) _ (exact (c .before)) (omega arith) (c .if4 .taken))
+
+add-if5 : tie.Need-add-if5
+add-if5 c = search needs
+
+shared-slice-read-if5 : tie.Need-shared-slice-read-if5
+shared-slice-read-if5 c = search needs
+
+add-t12 : tie.Need-add-t12
+add-t12 c = search needs
+
+returns-5 : tie.Need-returns-5
+returns-5 c =
+    let bytes = c .before .before .before .before .before .before .before .before .before .before .args .s .now in
+    bad-start 2 bytes _ (no-star bytes (c .before .before .before .before .before .before .if2 .left) _ (exact (c .before .before .before)) (omega arith) (omega arith) (c .if5 .taken)) (λ same. omega (arith, same, exact (c .before .before .before)))
+
+add-if6 : tie.Need-add-if6
+add-if6 c = search needs
+
+returns-6 : tie.Need-returns-6
+returns-6 c =
+    let bytes = c .before .before .before .before .before .before .before .before .before .before .before .args .s .now in
+    undecided 2 bytes (digits-missing bytes (c .before .before .before .before .before .before .before .if2 .left) _ (exact (c .before .before .before .before)) (omega arith) (c .before .if5 .left) (c .if6 .taken))
+
+add-t10 : tie.Need-add-t10
+add-t10 c = search needs
+
+returns-7 : tie.Need-returns-7
+returns-7 c =
+    let bytes = c .before .before .before .before .before .before .before .before .before .before .before .args .s .now in
+    let is-run = exact (c .before .before .before .before) in
+    by-whole 2 bytes _ (all-there bytes (c .before .before .before .before .before .before .before .if2 .left) _ is-run (omega arith) (c .before .if5 .left) (omega arith))
+    (ap (λ (n : ℕ). n + 6) is-run)
+
+pub examine-sentence-spec : {M : Type 1} → statement M
+examine-sentence-spec =
+    tie.close
+    (tie.spec
+    returns
+    shared-slice-read-if2
+    returns-2
+    sub-payload-bytes
+    part-payload-bytes-start
+    part-payload-bytes-end
+    payload-bytes-requires
+    returns-3
+    add-if4
+    returns-4
+    add-if5
+    shared-slice-read-if5
+    add-t12
+    returns-5
+    add-if6
+    returns-6
+    add-t10
+    returns-7)

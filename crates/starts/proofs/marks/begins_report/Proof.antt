@@ -1,0 +1,30 @@
+-- `starts::begins_report` meets its contract: its tests are those of the rule.
+-- Assumes nothing.
+use borrow.Author.Needs.{needs}
+use borrow.Author.Tests.{le-leb, lt-leb}
+use lib.ListN.{length}
+use Rattle.starts.proofs.marks.begins_report.Statement.{statement}
+use Rattle.starts.proofs.marks.begins_report.Tie as tie
+
+returns : tie.Need-returns
+returns c = rw (lt-leb 4 (length (c .before .args .s .now)) (c .if1 .taken))
+
+shared-slice-read-result : tie.Need-shared-slice-read-result
+shared-slice-read-result c = search needs
+
+shared-slice-read-result-2 : tie.Need-shared-slice-read-result-2
+shared-slice-read-result-2 c = search needs
+
+shared-slice-read-result-3 : tie.Need-shared-slice-read-result-3
+shared-slice-read-result-3 c = search needs
+
+shared-slice-read-result-4 : tie.Need-shared-slice-read-result-4
+shared-slice-read-result-4 c = search needs
+
+returns-2 : tie.Need-returns-2
+returns-2 c = rw (le-leb 4 (length (c .before .before .before .before .before .args .s .now)) (c .before .before .before .before .if1 .left))
+
+pub begins-report-spec : {M : Type 1} → statement M
+begins-report-spec =
+    tie.close
+    (tie.spec returns shared-slice-read-result shared-slice-read-result-2 shared-slice-read-result-3 shared-slice-read-result-4 returns-2)

@@ -1,0 +1,89 @@
+// What is known of a start before a frame is read there: a bad start with the number of bytes that settled
+// it, an undecided one, or as many bytes as a frame there has. (The frame is read by whoever wants it:
+// through here it would be copied twice.)
+use crate::marks::bytes_needed;
+use crate::marks::mark_of;
+use crate::marks::payload_bytes;
+ghost use mathlib.Core.Path.{_≡_};
+ghost use Rattle.starts.specs.Seen.{seen};
+
+pub enum Seen {
+    // so many bytes, which the reader of one frame decides as a whole
+    Whole(usize),
+    // a bad start: how many bytes settled that
+    Bad(usize),
+    Undecided,
+}
+
+// A start of an SPE family.
+fn examine_packet(family: u8, s: &[u8]) -> Seen
+    requires { ⌜ (family ≡ 2 → ⊥) ⌝ }
+    ensures { λ r. ⌜ r ≡ seen family (now (s .entry)) ⌝ }
+{
+    let mark = mark_of(family);
+    if s.len() == 0 {
+        return Seen::Undecided;
+    }
+    if s[0] != mark {
+        return Seen::Bad(1);
+    }
+    if s.len() == 1 {
+        return Seen::Undecided;
+    }
+    if s[1] != mark {
+        return Seen::Bad(2);
+    }
+    if s.len() == 2 {
+        return Seen::Undecided;
+    }
+    if s[2] != mark {
+        return Seen::Bad(3);
+    }
+    if s.len() == 3 {
+        return Seen::Undecided;
+    }
+    let n = bytes_needed(family, s[3]);
+    if n == 0 {
+        return Seen::Bad(4);
+    }
+    if s.len() < n {
+        return Seen::Undecided;
+    }
+    Seen::Whole(n)
+}
+
+// A start of the Alpha's family.
+fn examine_sentence(s: &[u8]) -> Seen
+    ensures { λ r. ⌜ r ≡ seen 2 (now (s .entry)) ⌝ }
+{
+    if s.len() == 0 {
+        return Seen::Undecided;
+    }
+    if s[0] != b'$' {
+        return Seen::Bad(1);
+    }
+    let n = payload_bytes(&s[1..]);
+    if 128 < n {
+        return Seen::Bad(130);
+    }
+    if s.len() <= n + 1 {
+        return Seen::Undecided;
+    }
+    if s[n + 1] != b'*' {
+        return Seen::Bad(n + 2);
+    }
+    if s.len() < n + 6 {
+        return Seen::Undecided;
+    }
+    Seen::Whole(n + 6)
+}
+
+// What is known of the start of the bytes, read as a stream of the family.
+pub fn examine(family: u8, s: &[u8]) -> Seen
+    ensures { λ r. ⌜ r ≡ seen family (now (s .entry)) ⌝ }
+{
+    if family == 2 {
+        return examine_sentence(s);
+    }
+    examine_packet(family, s)
+}

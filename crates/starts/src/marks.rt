@@ -1,0 +1,122 @@
+// What a start is known by: the mark of its family, what a count needs and the longest frame, the first bytes of a
+// report, and the payload bytes behind a dollar sign.
+use checksums::payload_byte;
+use texts::text;
+ghost use mathlib.Core.Path.{_≡_};
+ghost use Prim.Native.Nat.{min};
+ghost use lib.ListN.{length};
+ghost use Rattle.rules.specs.Bytes.{every};
+ghost use Rattle.rules.specs.Sentences.{isPayloadByte};
+ghost use Rattle.stream_rules.specs.Heads.{markOf, needs, longest, payloadRun};
+ghost use Rattle.starts.specs.Begins.{beginsReport};
+
+// The mark of an SPE family.
+pub fn mark_of(family: u8) -> u8
+    ensures { λ r. ⌜ r ≡ markOf family ⌝ }
+{
+    if family == 3 { 0x55 } else { 0xAA }
+}
+
+// How many bytes a count needs; 0 where it is not allowed.
+pub fn bytes_needed(family: u8, count: u8) -> usize
+    ensures { λ r. ⌜ r ≡ needs family count ⌝ }
+{
+    if count == 0x01 {
+        return 6;
+    }
+    if (family == 1) & (count == 0x43) {
+        return 75;
+    }
+    0
+}
+
+// The longest frame of a family.
+pub fn longest_frame(family: u8) -> usize
+    ensures { λ r. ⌜ r ≡ longest family ⌝ }
+{
+    if family == 1 {
+        return 75;
+    }
+    if family == 2 {
+        return 134;
+    }
+    6
+}
+
+// Whether a report begins at the first byte: three marks of family 1, and the count 43.
+pub fn begins_report(s: &[u8]) -> bool
+    ensures { λ r. ⌜ r ≡ beginsReport (now (s .entry)) ⌝ }
+{
+    if s.len() < 4 {
+        return false;
+    }
+    (s[0] == 0xAA) & (s[1] == 0xAA) & (s[2] == 0xAA) & (s[3] == 0x43)
+}
+
+// Whether a block of 16 bytes is all payload bytes. No byte ends the loop, so that it can be compiled
+// to test all of them at once.
+fn all_payload(block: &[u8]) -> bool
+    requires { ⌜ length (now block) ≡ 16 ⌝ }
+    ensures { λ r. ⌜ r ≡ every isPayloadByte (now (block .entry)) ⌝ }
+{
+    let mut good = true;
+    let mut i = 0;
+    while i < 16 {
+        good = good & payload_byte(block[i]);
+        i += 1;
+    }
+    good
+}
+
+// How many payload bytes the bytes begin with, byte by byte.
+fn run_by_bytes(p: &[u8]) -> usize
+    ensures { λ r. ⌜ r ≡ length (payloadRun (now (p .entry))) ⌝ }
+{
+    let mut n = 0;
+    while n < p.len() {
+        if !payload_byte(p[n]) {
+            return n;
+        }
+        n += 1;
+    }
+    n
+}
+
+// The same by blocks of 16, as long as there is one that is all payload bytes.
+fn run_by_blocks(p: &[u8]) -> usize
+    ensures { λ r. ⌜ r ≡ length (payloadRun (now (p .entry))) ⌝ }
+{
+    let mut n = 0;
+    while 16 <= p.len() - n {
+        if !all_payload(&p[n..n + 16]) {
+            break;
+        }
+        n += 16;
+    }
+    n + run_by_bytes(&p[n..])
+}
+
+// How many payload bytes the bytes begin with, counted to 129.
+pub fn payload_bytes(p: &[u8]) -> usize
+    ensures { λ r. ⌜ r ≡ min (length (payloadRun (now (p .entry)))) 129 ⌝ }
+{
+    run_by_blocks(text(p, 0, 129))
+}
+
+// Whether all of the bytes are payload bytes. The last 16 are seen as a block, which may overlap the one before it.
+pub fn is_payload(p: &[u8]) -> bool
+    ensures { λ r. ⌜ r ≡ every isPayloadByte (now (p .entry)) ⌝ }
+{
+    let n = p.len();
+    if n < 16 {
+        return run_by_bytes(p) == n;
+    }
+    let mut at = 0;
+    while 16 < n - at {
+        if !all_payload(&p[at..at + 16]) {
+            return false;
+        }
+        at += 16;
+    }
+    all_payload(&p[n - 16..])
+}

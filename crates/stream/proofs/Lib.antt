@@ -1,0 +1,17 @@
+-- `Cutting` has what a search of the held bytes and a piece says of the call, `Onward` how a call goes on behind a piece, `Counts`
+-- what a turn leaves, `Closing` what a closed reader hands out, and `Single` that the promise of a call on a reader's parts leaves
+-- one result.
+-- `Behind` has what the functions on a lent reader need of a reader behind a `&mut`: it is opened, and closed at another
+-- reader. `Parts` has such a reader part by part. `FedBehind` has the call of `stream::feed` on such a reader. `Lending` has
+-- how a local that holds a plain struct is lent by `&mut` for one call, and taken back after it, and `Fields` the same of
+-- one field of a struct.
+pub mod Cutting
+pub mod Onward
+pub mod Counts
+pub mod Closing
+pub mod Single
+pub mod Behind
+pub mod Parts
+pub mod FedBehind
+pub mod Lending
+pub mod Fields
