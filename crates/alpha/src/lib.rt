@@ -3,8 +3,9 @@ mod fields;
 mod full;
 mod numbered;
 
-use crate::numbered::NOT_GOOD;
 use rules::Frame;
+use rules::LONGEST_SENTENCE;
+use rules::NOT_GOOD;
 use rules::Reading;
 ghost use mathlib.Core.Path.{_≡_};
 ghost use mathlib.Core.Bool.{true};
@@ -53,7 +54,7 @@ fn is_framed(s: &[u8]) -> bool
     if n < 11 {
         return false;
     }
-    if 134 < n {
+    if LONGEST_SENTENCE < n {
         return false;
     }
     if s[0] != b'$' {

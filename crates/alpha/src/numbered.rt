@@ -1,6 +1,7 @@
 // Sentences 02, 03 and 05 as records, from the bytes behind the sentence's number.
 use crate::fields;
 use rules::Frame;
+use rules::NOT_GOOD;
 use rules::Reading;
 use rules::Sentence02;
 use rules::Sentence03;
@@ -8,9 +9,6 @@ use rules::Sentence05;
 ghost use mathlib.Core.Path.{_≡_};
 ghost use Rattle.rules.specs.Sentences.{behindCommas, is02, is03, is05, sentence02, sentence03, sentence05};
 ghost use Rattle.alpha.specs.Held.{held};
-
-// Document 01's number for bytes that are not one good frame.
-pub(crate) const NOT_GOOD: u8 = 8;
 
 const WIDTHS02: [usize; 13] = [5, 3, 4, 4, 4, 3, 3, 3, 1, 1, 2, 1, 5];
 

@@ -1,5 +1,7 @@
 // Writers of the Alpha's sentences, and of the bytes that enable it. Each writes into the lent
 // output's front, or refuses and leaves it as it was.
+use rules::NO_RECORD;
+use rules::NO_ROOM;
 use rules::Sentence02;
 use rules::Sentence03;
 use rules::Sentence05;
@@ -59,10 +61,10 @@ pub fn write_02(r: Sentence02, out: &mut [u8]) -> Written
     ensures { λ w. ⌜ Writes (inRange02 r) noRecord (bytes02 r) (now (out .entry)) w (now (out .exit)) ⌝ }
 {
     if !records::in_range02(r) {
-        return Written::Refused(3);
+        return Written::Refused(NO_RECORD);
     }
     if out.len() < 63 {
-        return Written::Refused(4);
+        return Written::Refused(NO_ROOM);
     }
     lay_02(r, out);
     Written::Length(63)
@@ -120,10 +122,10 @@ pub fn write_03(r: Sentence03, out: &mut [u8]) -> Written
     ensures { λ w. ⌜ Writes (inRange03 r) noRecord (bytes03 r) (now (out .entry)) w (now (out .exit)) ⌝ }
 {
     if !records::in_range03(r) {
-        return Written::Refused(3);
+        return Written::Refused(NO_RECORD);
     }
     if out.len() < 49 {
-        return Written::Refused(4);
+        return Written::Refused(NO_ROOM);
     }
     lay_03(r, out);
     Written::Length(49)
@@ -175,10 +177,10 @@ pub fn write_05(r: Sentence05, out: &mut [u8]) -> Written
     ensures { λ w. ⌜ Writes (inRange05 r) noRecord (bytes05 r) (now (out .entry)) w (now (out .exit)) ⌝ }
 {
     if !records::in_range05(r) {
-        return Written::Refused(3);
+        return Written::Refused(NO_RECORD);
     }
     if out.len() < 32 {
-        return Written::Refused(4);
+        return Written::Refused(NO_ROOM);
     }
     lay_05(r, out);
     Written::Length(32)
@@ -189,7 +191,7 @@ pub fn write_enable(out: &mut [u8]) -> Written
     ensures { λ w. ⌜ Writes true noRoom enableBytes (now (out .entry)) w (now (out .exit)) ⌝ }
 {
     if out.len() < 3 {
-        return Written::Refused(4);
+        return Written::Refused(NO_ROOM);
     }
     pens::put_bytes(out, 0, b"+++");
     Written::Length(3)

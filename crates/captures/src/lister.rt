@@ -5,10 +5,18 @@ use crate::steps::may_be_sentence;
 use crate::steps::next_command;
 use crate::steps::reply_size;
 use crate::steps::sentence_size;
+use rules::COMMANDS;
+use rules::NO_FAMILY;
+use rules::NO_ROOM;
+use rules::PACKET_LENGTH;
+use rules::REPLY_MARK;
+use rules::SENTENCES;
+use rules::TOO_LONG;
 use search::First;
 use search::first_good;
 use starts::is_family;
 use starts::payload_bytes;
+use stream_rules::LONGEST_CAPTURE;
 use stream_rules::Listed;
 use texts::text;
 ghost use mathlib.Core.Path.{_≡_};
@@ -36,7 +44,7 @@ fn fill_commands(capture: &[u8], starts: &mut [u32]) -> usize
 {
     let mut at = 0;
     let mut n = 0;
-    while 6 <= capture.len() - at {
+    while PACKET_LENGTH <= capture.len() - at {
         let size = command_size(&capture[at..]);
         if size == 0 {
             at = next_command(capture, at);
@@ -57,8 +65,8 @@ fn fill_replies(capture: &[u8], starts: &mut [u32]) -> usize
 {
     let mut at = 0;
     let mut n = 0;
-    while 6 <= capture.len() - at {
-        if capture[at + 3] == 0xAA {
+    while PACKET_LENGTH <= capture.len() - at {
+        if capture[at + 3] == REPLY_MARK {
             at += 1;
             continue;
         }
@@ -108,10 +116,10 @@ fn fill_starts(family: u8, capture: &[u8], starts: &mut [u32]) -> usize
     requires { ⌜ (isFamily family ≡ true) × (length (now capture) ≤ 65536) ⌝ }
     ensures { λ r. ⌜ Fills family (now (capture .entry)) (now (starts .entry)) r (now (starts .exit)) ⌝ }
 {
-    if family == 2 {
+    if family == SENTENCES {
         return fill_sentences(capture, starts);
     }
-    if family == 3 {
+    if family == COMMANDS {
         return fill_commands(capture, starts);
     }
     fill_replies(capture, starts)
@@ -131,17 +139,17 @@ pub fn list_frames(family: u8, capture: &[u8], starts: &mut [u32]) -> Listed
     ensures { λ r. ⌜ Lists family (now (capture .entry)) (now (starts .entry)) r (now (starts .exit)) ⌝ }
 {
     if !is_family(family) {
-        return Listed::Refused(1);
+        return Listed::Refused(NO_FAMILY);
     }
-    if 65536 < capture.len() {
-        return Listed::Refused(7);
+    if LONGEST_CAPTURE < capture.len() {
+        return Listed::Refused(TOO_LONG);
     }
     // a frame has at least six bytes: here there is room, and one pass is enough
     if capture.len() / 6 <= starts.len() {
         return Listed::Count(fill_starts(family, capture, starts));
     }
     if starts.len() < count_frames(family, capture) {
-        return Listed::Refused(4);
+        return Listed::Refused(NO_ROOM);
     }
     Listed::Count(fill_starts(family, capture, starts))
 }
@@ -153,7 +161,7 @@ pub fn next_frame(family: u8, capture: &[u8], place: usize) -> &[u8]
     if !is_family(family) {
         return &capture[..0];
     }
-    if 65536 < capture.len() {
+    if LONGEST_CAPTURE < capture.len() {
         return &capture[..0];
     }
     if capture.len() < place {

@@ -4,6 +4,7 @@ use rules::Frame;
 use search::First;
 use search::first_good;
 use starts::is_family;
+use stream_rules::LONGEST_CAPTURE;
 ghost use mathlib.Core.Path.{_≡_};
 ghost use Rattle.captures.specs.Finds.{nextIn};
 
@@ -28,7 +29,7 @@ pub fn find(family: u8, capture: &[u8], place: usize, reports: bool) -> Span
     if !is_family(family) {
         return none;
     }
-    if 65536 < capture.len() {
+    if LONGEST_CAPTURE < capture.len() {
         return none;
     }
     let mut at = place;

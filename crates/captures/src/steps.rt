@@ -1,5 +1,11 @@
 // The steps of a walk along the starts of a capture: how long the good frame here is, with nothing more
 // to come, and where the next start is that may be good. Nothing of a frame is kept.
+use rules::CODE_COUNT;
+use rules::COMMAND_MARK;
+use rules::LONGEST_PAYLOAD;
+use rules::PACKET_LENGTH;
+use rules::REPORT_COUNT;
+use rules::REPORT_LENGTH;
 use spe::is_ack;
 use spe::is_command;
 use spe::is_status;
@@ -16,11 +22,11 @@ ghost use Rattle.captures.specs.Sizes.{sizeAt, Passes};
 pub(crate) fn command_size(s: &[u8]) -> usize
     ensures { λ r. ⌜ r ≡ sizeAt 3 (now (s .entry)) ⌝ }
 {
-    if s.len() < 6 {
+    if s.len() < PACKET_LENGTH {
         return 0;
     }
-    if is_command(&s[..6]) {
-        return 6;
+    if is_command(&s[..PACKET_LENGTH]) {
+        return PACKET_LENGTH;
     }
     0
 }
@@ -30,28 +36,28 @@ pub(crate) fn command_size(s: &[u8]) -> usize
 pub(crate) fn reply_size(s: &[u8]) -> usize
     ensures { λ r. ⌜ r ≡ sizeAt 1 (now (s .entry)) ⌝ }
 {
-    if s.len() < 6 {
+    if s.len() < PACKET_LENGTH {
         return 0;
     }
     let count = s[3];
-    if count == 0x01 {
-        if is_ack(&s[..6]) {
-            return 6;
+    if count == CODE_COUNT {
+        if is_ack(&s[..PACKET_LENGTH]) {
+            return PACKET_LENGTH;
         }
         return 0;
     }
-    if count != 0x43 {
+    if count != REPORT_COUNT {
         return 0;
     }
-    if s.len() < 75 {
+    if s.len() < REPORT_LENGTH {
         return 0;
     }
     // nearly all that only begin as a report are turned away by its end
     if !((s[73] == 0x0D) & (s[74] == 0x0A)) {
         return 0;
     }
-    if is_status(&s[..75]) {
-        return 75;
+    if is_status(&s[..REPORT_LENGTH]) {
+        return REPORT_LENGTH;
     }
     0
 }
@@ -76,7 +82,7 @@ pub(crate) fn sentence_size(s: &[u8], n: usize) -> usize
     requires { ⌜ n ≡ min (length (payloadRun (drop 1 (now s)))) 129 ⌝ }
     ensures { λ r. ⌜ r ≡ sizeAt 2 (now (s .entry)) ⌝ }
 {
-    if 128 < n {
+    if LONGEST_PAYLOAD < n {
         return 0;
     }
     if s.len() < n + 6 {
@@ -98,8 +104,8 @@ fn past_marks(s: &[u8], from: usize) -> usize
     ensures { λ r. ⌜ Passes 3 (now (s .entry)) from r ⌝ }
 {
     let mut at = from;
-    while 6 <= s.len() - at {
-        if s[at + 3] != 0x55 {
+    while PACKET_LENGTH <= s.len() - at {
+        if s[at + 3] != COMMAND_MARK {
             return at;
         }
         at += 1;
@@ -113,7 +119,7 @@ pub(crate) fn next_command(s: &[u8], from: usize) -> usize
     requires { ⌜ (from + 6 ≤ length (now s)) × (0 ≡ sizeAt 3 (drop from (now s))) ⌝ }
     ensures { λ r. ⌜ (from < r) × Passes 3 (now (s .entry)) from r ⌝ }
 {
-    if s[from + 3] != 0x55 {
+    if s[from + 3] != COMMAND_MARK {
         return past_marks(s, from + 4);
     }
     past_marks(s, from + 1)

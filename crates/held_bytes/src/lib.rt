@@ -1,6 +1,7 @@
 // The held places of a stream reader, which are lent and altered where they stand: bytes laid behind those held,
 // and a part of them kept, with zeros behind it.
 use pens::put_bytes;
+use stream_rules::PLACES;
 use texts::text;
 ghost use mathlib.Core.Path.{_≡_};
 ghost use mathlib.Core.Bool.{true};
@@ -21,11 +22,11 @@ pub fn size(places: &[u8]) -> usize
 }
 
 // Zeros from one of the places on.
-fn clear_from(places: &mut [u8; 133], from: usize)
+fn clear_from(places: &mut [u8; PLACES], from: usize)
     ensures { λ _. ⌜ Leaves (now (places .entry)) (filled (take from (now (places .entry)))) (now (places .exit)) ⌝ }
 {
     let mut i = from;
-    while i < 133 {
+    while i < PLACES {
         places[i] = 0;
         i += 1;
     }
@@ -46,7 +47,7 @@ fn block_of(few: &[u8]) -> [u8; 16]
 }
 
 // Sixteen bytes laid at a place. All are read before one is written, so that the compiler moves them at once.
-fn put_block(places: &mut [u8; 133], at: usize, few: &[u8])
+fn put_block(places: &mut [u8; PLACES], at: usize, few: &[u8])
     requires { ⌜ (length (now few) ≡ 16) × (at + 16 ≤ 133) ⌝ }
     ensures { λ _. ⌜ Leaves (now (places .entry)) (laid at (now (few .entry)) (now (places .entry))) (now (places .exit)) ⌝ }
 {
@@ -59,7 +60,7 @@ fn put_block(places: &mut [u8; 133], at: usize, few: &[u8])
 }
 
 // Bytes laid at a place, where there is room for them, sixteen of them as a block. The other places stay as they are.
-pub fn lay(places: &mut [u8; 133], at: usize, few: &[u8])
+pub fn lay(places: &mut [u8; PLACES], at: usize, few: &[u8])
     ensures { λ _. ⌜ Leaves (now (places .entry)) (laid at (now (few .entry)) (now (places .entry))) (now (places .exit)) ⌝ }
 {
     if few.len() != 16 {
@@ -73,7 +74,7 @@ pub fn lay(places: &mut [u8; 133], at: usize, few: &[u8])
 
 // Keeps so many places from one of them on, with zeros behind them. From the front there is nothing to move, and where they
 // are none, nothing to copy.
-pub fn keep_part(places: &mut [u8; 133], a: usize, n: usize)
+pub fn keep_part(places: &mut [u8; PLACES], a: usize, n: usize)
     ensures { λ _. ⌜ Leaves (now (places .entry)) (filled (part a n (now (places .entry)))) (now (places .exit)) ⌝ }
 {
     if a == 0 {
@@ -81,17 +82,17 @@ pub fn keep_part(places: &mut [u8; 133], a: usize, n: usize)
         return;
     }
     if n == 0 {
-        *places = [0u8; 133];
+        *places = [0u8; PLACES];
         return;
     }
-    let mut kept = [0u8; 133];
+    let mut kept = [0u8; PLACES];
     put_bytes(&mut kept, 0, text(places, a, n));
     *places = kept;
 }
 
 // Whether zeros stand in all places. They are seen as nine blocks of sixteen side by side, the last of which
 // overlaps the one before it, so that the compiler tests sixteen bytes at once.
-fn is_clear(places: &[u8; 133]) -> bool
+fn is_clear(places: &[u8; PLACES]) -> bool
     ensures { λ r. ⌜ (r ≡ true → length (now (places .entry)) ≡ 133 → now (places .entry) ≡ filled []) ⌝ }
 {
     let mut clear = true;
@@ -114,10 +115,10 @@ fn is_clear(places: &[u8; 133]) -> bool
 }
 
 // Zeros in all places. Where they are there already nothing is written.
-pub fn clear(places: &mut [u8; 133])
+pub fn clear(places: &mut [u8; PLACES])
     ensures { λ _. ⌜ Leaves (now (places .entry)) (filled []) (now (places .exit)) ⌝ }
 {
     if !is_clear(places) {
-        *places = [0u8; 133];
+        *places = [0u8; PLACES];
     }
 }

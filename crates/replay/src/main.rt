@@ -1,13 +1,14 @@
 // Replays the calls of a script on a stream reader: standard input is the family's digit, 1, 2 or 3,
 // and the script. Prints a line for each call, or the refusal alone.
 use replays::print_replay;
+use rules::NO_FAMILY;
 use std::num::wrapping_sub_u8;
 
 fn main() {
     let mut input = lines::input_buffer();
     let n = io::read_full(libc::STDIN_FILENO, &mut input);
     if n == 0 {
-        lines::print_refused(1);
+        lines::print_refused(NO_FAMILY);
         return;
     }
     print_replay(wrapping_sub_u8(input[0], b'0'), &input[1..n]);

@@ -2,10 +2,12 @@
 // count byte n and n bytes offer these in one call; `o`, a count byte n and n bytes do the same and,
 // as long as the answer is a frame, call again with the untaken rest.
 use crate::shown;
+use rules::TOO_LONG;
 use stream::close;
 use stream::feed;
 use stream::fresh_reader;
 use stream_rules::Answer;
+use stream_rules::LONGEST_CAPTURE;
 use stream_rules::Outcome;
 use stream_rules::Reader;
 use stream_rules::Ready;
@@ -25,8 +27,8 @@ pub fn print_replay(family: u8, script: &[u8]) {
 }
 
 fn print_calls(first: Reader, script: &[u8]) {
-    if 65536 < script.len() {
-        lines::print_refused(7);
+    if LONGEST_CAPTURE < script.len() {
+        lines::print_refused(TOO_LONG);
         return;
     }
     let mut reader = first;

@@ -6,6 +6,7 @@ use lines::hex;
 use lines::text;
 use listings::kind;
 use rules::Frame;
+use rules::REPORT_LENGTH;
 use rules::Written;
 ghost use mathlib.Core.List.{[], _∷_};
 ghost use Rattle.lines.specs.Lines.{Types};
@@ -29,7 +30,7 @@ fn values(line: &mut [u8], at: usize, frame: Frame) -> usize
 fn written(line: &mut [u8], at: usize, frame: Frame) -> usize
     ensures { λ r. ⌜ Types (writtenTexts frame) (now (line .entry)) at (now (line .exit)) r ⌝ }
 {
-    let mut out = [0u8; 75];
+    let mut out = [0u8; REPORT_LENGTH];
     let answer = row_writer::write_frame(frame, &mut out);
     let Written::Length(n) = answer else {
         return text(line, at, b"-");

@@ -2,6 +2,7 @@
 // input is the family's digit and the stream, which is offered in pieces of 16 bytes, then closed and
 // drained.
 use rules::Frame;
+use rules::NO_FAMILY;
 use std::num::wrapping_sub_u8;
 use stream::closed_lent;
 use stream::fed_lent;
@@ -15,7 +16,7 @@ fn main() {
     let mut input = lines::input_buffer();
     let n = io::read_full(libc::STDIN_FILENO, &mut input);
     if n == 0 {
-        lines::print_refused(1);
+        lines::print_refused(NO_FAMILY);
         return;
     }
     print_stream(wrapping_sub_u8(input[0], b'0'), &input[1..n]);

@@ -5,9 +5,15 @@ use crate::Counts;
 use crate::left_so;
 use held_bytes::keep_part;
 use held_bytes::lay;
+use rows::MORE_ROW;
 use rows::lay_head;
+use rules::LONGEST_PAYLOAD;
+use rules::REPLIES;
+use rules::REPORT_LENGTH;
+use rules::SENTENCES;
 use starts::begins_report;
 use starts::is_payload;
+use stream_rules::PLACES;
 use texts::text;
 ghost use mathlib.Core.Path.{_≡_};
 ghost use mathlib.Core.Bool.{true};
@@ -17,29 +23,29 @@ ghost use Rattle.row_stream.specs.FedRows.{FeedsRowAt};
 ghost use Rattle.row_stream.specs.Going.{ReportGoesOn, SentenceGoesOn, GoesOn};
 
 // True only where a report has begun in the held bytes, and is not whole with so many others.
-fn report_goes_on(count: usize, held: &[u8; 133], others: usize) -> bool
+fn report_goes_on(count: usize, held: &[u8; PLACES], others: usize) -> bool
     ensures { λ r. ⌜ (r ≡ true → ReportGoesOn count (now (held .entry)) others) ⌝ }
 {
-    if 74 < count {
+    if REPORT_LENGTH < count {
         return false;
     }
-    if 74 - count < others {
+    if REPORT_LENGTH - count <= others {
         return false;
     }
     begins_report(text(held, 0, count))
 }
 
 // True only where a sentence has begun in the held bytes, and all behind its `$` and all others may stand in a payload.
-fn sentence_goes_on(count: usize, held: &[u8; 133], others: &[u8]) -> bool
+fn sentence_goes_on(count: usize, held: &[u8; PLACES], others: &[u8]) -> bool
     ensures { λ r. ⌜ (r ≡ true → SentenceGoesOn count (now (held .entry)) (now (others .entry))) ⌝ }
 {
     if count < 1 {
         return false;
     }
-    if 128 < count {
+    if LONGEST_PAYLOAD < count {
         return false;
     }
-    if 128 - count < others.len() {
+    if LONGEST_PAYLOAD - count < others.len() {
         return false;
     }
     if held[0] != b'$' {
@@ -52,12 +58,12 @@ fn sentence_goes_on(count: usize, held: &[u8; 133], others: &[u8]) -> bool
 }
 
 // True only of such a call. Commands are too short for it.
-pub(crate) fn goes_on(family: u8, count: u8, held: &[u8; 133], others: &[u8]) -> bool
+pub(crate) fn goes_on(family: u8, count: u8, held: &[u8; PLACES], others: &[u8]) -> bool
     ensures { λ r. ⌜ (r ≡ true → length (now (held .entry)) ≡ 133 → GoesOn family count (now (held .entry)) (now (others .entry))) ⌝ }
 {
     match family {
-        1 => report_goes_on(count as usize, held, others.len()),
-        2 => sentence_goes_on(count as usize, held, others),
+        REPLIES => report_goes_on(count as usize, held, others.len()),
+        SENTENCES => sentence_goes_on(count as usize, held, others),
         _ => false,
     }
 }
@@ -68,7 +74,7 @@ pub(crate) fn feed_on(
     count: u8,
     at: u32,
     skipped: u32,
-    held: &mut [u8; 133],
+    held: &mut [u8; PLACES],
     others: &[u8],
     numbers: &mut [i64],
 ) -> Counts
@@ -79,6 +85,6 @@ pub(crate) fn feed_on(
     let all = used + others.len();
     lay(held, used, others);
     keep_part(held, 0, all);
-    lay_head(5, 0, others.len(), 0, 0, 0, numbers);
+    lay_head(MORE_ROW, 0, others.len(), 0, 0, 0, numbers);
     left_so(0, all as u8, at, skipped)
 }

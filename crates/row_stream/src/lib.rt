@@ -13,15 +13,22 @@ use held_bytes::lay;
 use held_bytes::size;
 pub use row_search::Place;
 pub use row_search::seek_row;
+use rows::COMMAND_ROW;
+use rows::LONGEST_ROW;
 use rows::lay_answer;
 use rows::lay_head;
 use rows::read_row;
+use rules::COMMANDS;
+use rules::PACKET_LENGTH;
+use rules::REPLIES;
+use rules::REPORT_LENGTH;
 use spe::is_command;
 use starts::bytes_needed;
 use starts::is_family;
 use starts::longest_frame;
 use stream::advanced;
 use stream::feed_places;
+use stream_rules::PLACES;
 use texts::text;
 ghost use mathlib.Core.Path.{_≡_};
 ghost use mathlib.Core.Bool.{true};
@@ -47,14 +54,14 @@ fn feed_any(
     count: u8,
     at: u32,
     skipped: u32,
-    held: &mut [u8; 133],
+    held: &mut [u8; PLACES],
     offered: &[u8],
     numbers: &mut [i64],
 ) -> Counts
     ensures { λ c. ⌜ FeedsRowAt family closed count (now (held .entry)) at skipped (now (offered .entry)) (now (numbers .entry)) c (now (held .exit)) (now (numbers .exit)) ⌝ }
 {
-    let short = numbers.len() < 26;
-    let mut places = [0u8; 133];
+    let short = numbers.len() < LONGEST_ROW;
+    let mut places = [0u8; PLACES];
     if short {
         places = *held;
     }
@@ -86,7 +93,7 @@ fn feed_few(
     count: u8,
     at: u32,
     skipped: u32,
-    held: &mut [u8; 133],
+    held: &mut [u8; PLACES],
     few: &[u8],
     numbers: &mut [i64],
 ) -> Counts
@@ -123,21 +130,21 @@ fn feed_few(
 fn front_reply(
     at: u32,
     skipped: u32,
-    held: &mut [u8; 133],
+    held: &mut [u8; PLACES],
     offered: &[u8],
     numbers: &mut [i64],
 ) -> usize
     requires { ⌜ (26 ≤ length (now numbers)) × (length (now held) ≡ 133) ⌝ }
     ensures { λ n. ⌜ FrontRow 1 at skipped (now (offered .entry)) (now (held .entry)) (now (numbers .entry)) n (now (held .exit)) (now (numbers .exit)) ⌝ }
 {
-    if offered.len() < 75 {
+    if offered.len() < REPORT_LENGTH {
         return 0;
     }
-    let n = bytes_needed(1, offered[3]);
+    let n = bytes_needed(REPLIES, offered[3]);
     if n == 0 {
         return 0;
     }
-    if read_row(1, &offered[..n], n, at, skipped, numbers) != 0 {
+    if read_row(REPLIES, &offered[..n], n, at, skipped, numbers) != 0 {
         return 0;
     }
     clear(held);
@@ -148,22 +155,30 @@ fn front_reply(
 fn front_command(
     at: u32,
     skipped: u32,
-    held: &mut [u8; 133],
+    held: &mut [u8; PLACES],
     offered: &[u8],
     numbers: &mut [i64],
 ) -> usize
     requires { ⌜ (26 ≤ length (now numbers)) × (length (now held) ≡ 133) ⌝ }
     ensures { λ n. ⌜ FrontRow 3 at skipped (now (offered .entry)) (now (held .entry)) (now (numbers .entry)) n (now (held .exit)) (now (numbers .exit)) ⌝ }
 {
-    if offered.len() < 6 {
+    if offered.len() < PACKET_LENGTH {
         return 0;
     }
-    if !is_command(&offered[..6]) {
+    if !is_command(&offered[..PACKET_LENGTH]) {
         return 0;
     }
-    lay_head(3, offered[4] as u32, 6, at, skipped, 6, numbers);
+    lay_head(
+        COMMAND_ROW,
+        offered[4] as u32,
+        PACKET_LENGTH,
+        at,
+        skipped,
+        PACKET_LENGTH,
+        numbers,
+    );
     clear(held);
-    6
+    PACKET_LENGTH
 }
 
 // The same of any family; sentences have no such way.
@@ -171,7 +186,7 @@ fn front_frame(
     family: u8,
     at: u32,
     skipped: u32,
-    held: &mut [u8; 133],
+    held: &mut [u8; PLACES],
     offered: &[u8],
     numbers: &mut [i64],
 ) -> usize
@@ -179,8 +194,8 @@ fn front_frame(
     ensures { λ n. ⌜ FrontRow family at skipped (now (offered .entry)) (now (held .entry)) (now (numbers .entry)) n (now (held .exit)) (now (numbers .exit)) ⌝ }
 {
     match family {
-        3 => front_command(at, skipped, held, offered, numbers),
-        1 => front_reply(at, skipped, held, offered, numbers),
+        COMMANDS => front_command(at, skipped, held, offered, numbers),
+        REPLIES => front_reply(at, skipped, held, offered, numbers),
         _ => 0,
     }
 }
@@ -189,7 +204,7 @@ fn front_frame(
 fn is_plain(closed: u8, places: usize, room: usize) -> bool
     ensures { λ r. ⌜ (r ≡ true → (closed ≡ 0) × (places ≡ 133) × (26 ≤ room)) ⌝ }
 {
-    (closed == 0) & (places == 133) & (26 <= room)
+    (closed == 0) & (places == PLACES) & (LONGEST_ROW <= room)
 }
 
 // True only where a reader of the family may hold so many bytes, and the places have room for the others behind them.
@@ -203,7 +218,7 @@ fn is_few(family: u8, count: u8, others: usize) -> bool
     if longest_frame(family) <= used {
         return false;
     }
-    others <= 133 - used
+    others <= PLACES - used
 }
 
 // What a call leaves, put together. (What the general way gives goes through here: handed on as it is, it would lie
@@ -227,7 +242,7 @@ pub fn feed_row(
     count: u8,
     at: u32,
     skipped: u32,
-    held: &mut [u8; 133],
+    held: &mut [u8; PLACES],
     offered: &[u8],
     numbers: &mut [i64],
 ) -> Counts

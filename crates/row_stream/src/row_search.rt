@@ -1,7 +1,11 @@
 // A search that lays the row of what it finds: a frame's, where the frame stands, or that of "more wanted". No frame is
 // handed on, so that none is copied.
+use rows::LONGEST_ROW;
+use rows::MORE_ROW;
 use rows::lay_head;
 use rows::read_row;
+use rules::REPLIES;
+use rules::REPORT_LENGTH;
 use search::Stop;
 use search::next_stop;
 use starts::begins_report;
@@ -29,7 +33,7 @@ pub struct Place {
 fn report_begun(family: u8, s: &[u8]) -> bool
     ensures { λ r. ⌜ (r ≡ true → ReportBegun family (now (s .entry))) ⌝ }
 {
-    if family != 1 {
+    if family != REPLIES {
         return false;
     }
     begins_report(s)
@@ -43,7 +47,7 @@ fn first_stop(family: u8, s: &[u8], begun: bool) -> Stop
     if begun {
         return Stop {
             at: 0,
-            size: 75,
+            size: REPORT_LENGTH,
             reach: 0,
         };
     }
@@ -55,7 +59,7 @@ fn lay_waiting(all: usize, count: usize, from: usize, numbers: &mut [i64]) -> Pl
     requires { ⌜ (count ≤ all) × (26 ≤ length (now numbers)) ⌝ }
     ensures { λ p. ⌜ LaysSought all count 0 0 (Waiting from) (now (numbers .entry)) p (now (numbers .exit)) ⌝ }
 {
-    let number = lay_head(5, 0, all - count, 0, 0, 0, numbers);
+    let number = lay_head(MORE_ROW, 0, all - count, 0, 0, 0, numbers);
     Place {
         laid: number == 0,
         start: from,
@@ -116,7 +120,7 @@ pub fn seek_row(
 ) -> Place
     ensures { λ p. ⌜ SeeksRow family (now (s .entry)) count at skipped (now (numbers .entry)) p (now (numbers .exit)) ⌝ }
 {
-    if (numbers.len() < 26) | (s.len() < count) {
+    if (numbers.len() < LONGEST_ROW) | (s.len() < count) {
         return Place {
             laid: false,
             start: 0,
@@ -125,7 +129,7 @@ pub fn seek_row(
         };
     }
     let begun = report_begun(family, s);
-    if begun & (s.len() < 75) {
+    if begun & (s.len() < REPORT_LENGTH) {
         return lay_waiting(s.len(), count, 0, numbers);
     }
     let first = first_stop(family, s, begun);

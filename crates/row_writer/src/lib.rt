@@ -11,7 +11,13 @@ use crate::given::is_row03;
 use crate::given::is_row05;
 use crate::given::is_status_row;
 use crate::given::status_from;
+use rows::ACK_ROW;
+use rows::COMMAND_ROW;
+use rows::SENTENCE_ROW;
+use rows::STATUS_ROW;
 use rules::Frame;
+use rules::NO_CODE;
+use rules::NO_RECORD;
 use rules::Written;
 ghost use mathlib.Core.Path.{_≡_};
 ghost use mathlib.Core.Bool.{true, false, _&&_, _||_};
@@ -20,6 +26,9 @@ ghost use Rattle.rules.specs.Answers.{Writes, noRoom, allowed, notAllowed, byte
 ghost use Rattle.rules.specs.Sentences.{enableBytes};
 ghost use Rattle.rows.specs.Rows.{refusalOf};
 ghost use Rattle.row_writer.specs.Given.{sentenceFrom, frameOf, lengthOr, WritesNumbers, WritesGiven};
+
+// The refusal of a code that is none, as a C program has it.
+const IS_NO_CODE: u32 = NO_CODE as u32;
 
 // A frame by the writer of its kind; another sentence has none.
 pub fn write_frame(f: Frame, out: &mut [u8]) -> Written
@@ -32,7 +41,7 @@ pub fn write_frame(f: Frame, out: &mut [u8]) -> Written
         Frame::Apa02(r) => alpha_writer::write_02(r, out),
         Frame::Apa03(r) => alpha_writer::write_03(r, out),
         Frame::Apa05(r) => alpha_writer::write_05(r, out),
-        Frame::Other(_) => Written::Refused(3),
+        Frame::Other(_) => Written::Refused(NO_RECORD),
     }
 }
 
@@ -65,19 +74,19 @@ fn frame_given(kind: u32, code: u32, values: &[i64]) -> Frame
     requires { ⌜ (ltb 255 code && (eqb kind 1 || eqb kind 3)) ≡ false ⌝ }
     ensures { λ r. ⌜ r ≡ frameOf kind code (now (values .entry)) ⌝ }
 {
-    if kind == 1 {
+    if kind == ACK_ROW {
         return Frame::Ack(code as u8);
     }
-    if kind == 2 {
+    if kind == STATUS_ROW {
         if is_status_row(values) {
             return Frame::Status(status_from(values));
         }
         return Frame::Other(0);
     }
-    if kind == 3 {
+    if kind == COMMAND_ROW {
         return Frame::Command(code as u8);
     }
-    if kind == 4 {
+    if kind == SENTENCE_ROW {
         return sentence_given(code, values);
     }
     Frame::Other(0)
@@ -100,8 +109,8 @@ fn tell(answer: Written, length: &mut usize) -> u32
 pub fn write_given(kind: u32, code: u32, values: &[i64], out: &mut [u8], length: &mut usize) -> u32
     ensures { λ r. ⌜ WritesGiven kind code (now (values .entry)) (now (out .entry)) (now (length .entry)) r (now (out .exit)) (now (length .exit)) ⌝ }
 {
-    if (255 < code) & ((kind == 1) | (kind == 3)) {
-        return 2;
+    if (255 < code) & ((kind == ACK_ROW) | (kind == COMMAND_ROW)) {
+        return IS_NO_CODE;
     }
     tell(write_frame(frame_given(kind, code, values), out), length)
 }

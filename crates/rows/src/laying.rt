@@ -5,6 +5,7 @@ use records::of_03;
 use records::of_05;
 use records::of_status;
 use rules::Frame;
+use rules::NO_ROOM;
 use rules::Reading;
 use rules::Sentence03;
 use stream_rules::Answer;
@@ -17,6 +18,27 @@ ghost use Rattle.rules.specs.Answers.{said, values};
 ghost use Rattle.rules.specs.Sentences.{numbers03};
 ghost use Rattle.stream_rules.specs.Streams.{saidToFeed};
 ghost use Rattle.rows.specs.Rows.{frameKind, frameCode, counted, head, row, rowFed, rowAt, laidAt, LaysRow, Lays};
+
+// The first number of a row: what kind of frame, or that more is wanted, or that all is done.
+pub const ACK_ROW: u32 = 1;
+
+pub const STATUS_ROW: u32 = 2;
+
+pub const COMMAND_ROW: u32 = 3;
+
+pub const SENTENCE_ROW: u32 = 4;
+
+pub const MORE_ROW: u32 = 5;
+
+pub const DONE_ROW: u32 = 6;
+
+// How many numbers stand before a frame's values, and how many the longest row has: that of a status report.
+pub const ROW_HEAD: usize = 6;
+
+pub const LONGEST_ROW: usize = 26;
+
+// The refusal of a row that has no room.
+const HAS_NO_ROOM: u32 = NO_ROOM as u32;
 
 // The numbers from a place on.
 fn put_numbers(numbers: &mut [i64], at: usize, what: &[u32])
@@ -42,13 +64,13 @@ fn kind(frame: Frame) -> u32
     ensures { λ r. ⌜ r ≡ frameKind frame ⌝ }
 {
     match frame {
-        Frame::Ack(_) => 1,
-        Frame::Status(_) => 2,
-        Frame::Command(_) => 3,
-        Frame::Apa02(_) => 4,
-        Frame::Apa03(_) => 4,
-        Frame::Apa05(_) => 4,
-        Frame::Other(_) => 4,
+        Frame::Ack(_) => ACK_ROW,
+        Frame::Status(_) => STATUS_ROW,
+        Frame::Command(_) => COMMAND_ROW,
+        Frame::Apa02(_) => SENTENCE_ROW,
+        Frame::Apa03(_) => SENTENCE_ROW,
+        Frame::Apa05(_) => SENTENCE_ROW,
+        Frame::Other(_) => SENTENCE_ROW,
     }
 }
 
@@ -73,7 +95,7 @@ fn put_03(numbers: &mut [i64], r: Sentence03)
     ensures { λ _. ⌜ now (numbers .exit) ≡ laidAt 6 (map pos (numbers03 r) ++ r .temp ∷ []) (now (numbers .entry)) ⌝ }
 {
     let what = of_03(r);
-    put_numbers(numbers, 6, &what);
+    put_numbers(numbers, ROW_HEAD, &what);
     numbers[14] = r.temp as i64;
 }
 
@@ -83,10 +105,10 @@ fn put_values(numbers: &mut [i64], frame: Frame)
     ensures { λ _. ⌜ now (numbers .exit) ≡ laidAt 6 (values frame) (now (numbers .entry)) ⌝ }
 {
     match frame {
-        Frame::Status(s) => put_numbers(numbers, 6, &of_status(s)),
-        Frame::Apa02(r) => put_numbers(numbers, 6, &of_02(r)),
+        Frame::Status(s) => put_numbers(numbers, ROW_HEAD, &of_status(s)),
+        Frame::Apa02(r) => put_numbers(numbers, ROW_HEAD, &of_02(r)),
         Frame::Apa03(r) => put_03(numbers, r),
-        Frame::Apa05(r) => put_numbers(numbers, 6, &of_05(r)),
+        Frame::Apa05(r) => put_numbers(numbers, ROW_HEAD, &of_05(r)),
         Frame::Ack(_) => {}
         Frame::Command(_) => {}
         Frame::Other(_) => {}
@@ -117,13 +139,13 @@ fn row_length(frame: Frame) -> usize
     ensures { λ r. ⌜ r ≡ 6 + length (values frame) ⌝ }
 {
     match frame {
-        Frame::Ack(_) => 6,
-        Frame::Status(_) => 26,
-        Frame::Command(_) => 6,
+        Frame::Ack(_) => ROW_HEAD,
+        Frame::Status(_) => LONGEST_ROW,
+        Frame::Command(_) => ROW_HEAD,
         Frame::Apa02(_) => 19,
         Frame::Apa03(_) => 15,
         Frame::Apa05(_) => 17,
-        Frame::Other(_) => 6,
+        Frame::Other(_) => ROW_HEAD,
     }
 }
 
@@ -140,7 +162,7 @@ fn lay_frame(
     ensures { λ r. ⌜ LaysRow (row taken start skipped size frame) (now (numbers .entry)) r (now (numbers .exit)) ⌝ }
 {
     if numbers.len() < row_length(frame) {
-        return 4;
+        return HAS_NO_ROOM;
     }
     put_head(
         numbers,
@@ -167,8 +189,8 @@ pub fn lay_head(
 ) -> u32
     ensures { λ r. ⌜ LaysRow (head kind code taken start skipped size) (now (numbers .entry)) r (now (numbers .exit)) ⌝ }
 {
-    if numbers.len() < 6 {
-        return 4;
+    if numbers.len() < ROW_HEAD {
+        return HAS_NO_ROOM;
     }
     put_head(numbers, kind, code, taken, start, skipped, size);
     0
@@ -187,14 +209,14 @@ pub fn lay_values(
 ) -> u32
     ensures { λ r. ⌜ LaysRow (head kind code taken start skipped size ++ map pos (now (values .entry))) (now (numbers .entry)) r (now (numbers .exit)) ⌝ }
 {
-    if numbers.len() < 6 {
-        return 4;
+    if numbers.len() < ROW_HEAD {
+        return HAS_NO_ROOM;
     }
-    if numbers.len() - 6 < values.len() {
-        return 4;
+    if numbers.len() - ROW_HEAD < values.len() {
+        return HAS_NO_ROOM;
     }
     put_head(numbers, kind, code, taken, start, skipped, size);
-    put_numbers(numbers, 6, values);
+    put_numbers(numbers, ROW_HEAD, values);
     0
 }
 
@@ -214,8 +236,8 @@ pub fn lay_answer(answer: Answer, numbers: &mut [i64]) -> u32
                 numbers,
             )
         }
-        Answer::More(taken) => lay_head(5, 0, taken, 0, 0, 0, numbers),
-        Answer::Done(taken) => lay_head(6, 0, taken, 0, 0, 0, numbers),
+        Answer::More(taken) => lay_head(MORE_ROW, 0, taken, 0, 0, 0, numbers),
+        Answer::Done(taken) => lay_head(DONE_ROW, 0, taken, 0, 0, 0, numbers),
         Answer::Refused(n) => n as u32,
     }
 }

@@ -1,13 +1,26 @@
 // Reads one frame and lays its row. What a reply or a command says goes from its bytes to the row: no record is made
 // of it, which would have to be copied, and a copy waits for the bytes just written.
+use crate::laying::ACK_ROW;
+use crate::laying::COMMAND_ROW;
+use crate::laying::STATUS_ROW;
 use crate::laying::lay_head;
 use crate::laying::lay_reading;
 use crate::laying::lay_values;
 use alpha::read_sentence;
+use rules::COMMANDS;
+use rules::NO_FAMILY;
+use rules::NOT_GOOD;
+use rules::REPLIES;
+use rules::SENTENCES;
 use spe::is_ack;
 use spe::is_command;
 use spe::read_numbers;
 ghost use Rattle.rows.specs.ReadRows.{ReadsRowAt};
+
+// The refusals, as a C program has them.
+const IS_NO_FAMILY: u32 = NO_FAMILY as u32;
+
+const IS_NOT_GOOD: u32 = NOT_GOOD as u32;
 
 // An acknowledgement or a report, or refusal 8.
 fn reply_row(bytes: &[u8], taken: usize, start: u32, skipped: u32, numbers: &mut [i64]) -> u32
@@ -15,14 +28,22 @@ fn reply_row(bytes: &[u8], taken: usize, start: u32, skipped: u32, numbers: &mut
 {
     let size = bytes.len();
     if is_ack(bytes) {
-        return lay_head(1, bytes[4] as u32, taken, start, skipped, size, numbers);
+        return lay_head(
+            ACK_ROW,
+            bytes[4] as u32,
+            taken,
+            start,
+            skipped,
+            size,
+            numbers,
+        );
     }
     let report = read_numbers(bytes);
     if !report.good {
-        return 8;
+        return IS_NOT_GOOD;
     }
     let values = report.numbers;
-    lay_values(2, 0, taken, start, skipped, size, &values, numbers)
+    lay_values(STATUS_ROW, 0, taken, start, skipped, size, &values, numbers)
 }
 
 // A command, or refusal 8.
@@ -31,9 +52,17 @@ fn command_row(bytes: &[u8], taken: usize, start: u32, skipped: u32, numbers: &m
 {
     let size = bytes.len();
     if is_command(bytes) {
-        return lay_head(3, bytes[4] as u32, taken, start, skipped, size, numbers);
+        return lay_head(
+            COMMAND_ROW,
+            bytes[4] as u32,
+            taken,
+            start,
+            skipped,
+            size,
+            numbers,
+        );
     }
-    8
+    IS_NOT_GOOD
 }
 
 // The frame that the bytes are, as a whole, laid as a row with these bytes taken, this start and these bytes
@@ -50,9 +79,9 @@ pub fn read_row(
 {
     let size = bytes.len();
     match family {
-        1 => reply_row(bytes, taken, start, skipped, numbers),
-        2 => lay_reading(read_sentence(bytes), taken, start, skipped, size, numbers),
-        3 => command_row(bytes, taken, start, skipped, numbers),
-        _ => 1,
+        REPLIES => reply_row(bytes, taken, start, skipped, numbers),
+        SENTENCES => lay_reading(read_sentence(bytes), taken, start, skipped, size, numbers),
+        COMMANDS => command_row(bytes, taken, start, skipped, numbers),
+        _ => IS_NO_FAMILY,
     }
 }

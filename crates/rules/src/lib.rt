@@ -1,5 +1,52 @@
 // What is read and written: the records of the three families, the frame that holds one of them,
-// and the answers of a reader and of a writer. The rules for them stand in specs/.
+// and the answers of a reader and of a writer. The rules for them stand in specs/. Also the numbers of
+// document 01 that more than one room needs, each here once.
+
+// The families: replies of an SPE amplifier, sentences of the Alpha 9500, commands to an SPE amplifier.
+pub const REPLIES: u8 = 1;
+
+pub const SENTENCES: u8 = 2;
+
+pub const COMMANDS: u8 = 3;
+
+// The numbers for no.
+pub const NO_FAMILY: u8 = 1;
+
+pub const NO_CODE: u8 = 2;
+
+pub const NO_RECORD: u8 = 3;
+
+pub const NO_ROOM: u8 = 4;
+
+pub const IS_CLOSED: u8 = 5;
+
+pub const HOLDS_TOO_MUCH: u8 = 6;
+
+pub const TOO_LONG: u8 = 7;
+
+pub const NOT_GOOD: u8 = 8;
+
+// An SPE packet: its mark, by the way that it goes, three times; a count; what it counts; a checksum.
+pub const REPLY_MARK: u8 = 0xAA;
+
+pub const COMMAND_MARK: u8 = 0x55;
+
+// the count of a packet with a code, and of a report
+pub const CODE_COUNT: u8 = 0x01;
+
+pub const REPORT_COUNT: u8 = 0x43;
+
+// how many bytes a packet with a code has, a report, and the data in it
+pub const PACKET_LENGTH: usize = 6;
+
+pub const REPORT_LENGTH: usize = 75;
+
+pub const DATA_LENGTH: usize = 67;
+
+// The longest payload of a sentence, and the longest sentence: with `$`, `*` and four digits.
+pub const LONGEST_PAYLOAD: usize = 128;
+
+pub const LONGEST_SENTENCE: usize = 134;
 
 // A status report of an SPE amplifier: fields 1 to 19 of document 01, of which 7 holds two. Letters
 // are kept as their ASCII bytes.

@@ -3,8 +3,12 @@
 // nothing rules it out. `laying` has the same search with the row of what it finds.
 
 use frames::read_frame;
+use rules::COMMANDS;
 use rules::Frame;
+use rules::REPLIES;
+use rules::REPORT_LENGTH;
 use rules::Reading;
+use rules::SENTENCES;
 use spe::is_ack;
 use spe::is_command;
 use starts::Seen;
@@ -45,10 +49,10 @@ fn ruled_out(family: u8, s: &[u8]) -> bool
     requires { ⌜ (family ≡ 2 → ⊥) ⌝ }
     ensures { λ r. ⌜ (r ≡ true → isGood (readOne family (now (s .entry))) ≡ false) ⌝ }
 {
-    if s.len() == 75 {
+    if s.len() == REPORT_LENGTH {
         return !((s[73] == 0x0D) & (s[74] == 0x0A));
     }
-    if family == 3 {
+    if family == COMMANDS {
         return !is_command(s);
     }
     !is_ack(s)
@@ -107,7 +111,7 @@ fn past_unmarked(family: u8, mark: u8, s: &[u8], from: usize) -> usize
     requires { ⌜ from ≤ length (now s) ⌝ }
     ensures { λ r. ⌜ (from ≤ r) × (r ≤ length (now (s .entry))) × Unmarked mark (now (s .entry)) from r ⌝ }
 {
-    if family != 1 {
+    if family != REPLIES {
         return from;
     }
     let mut at = from;
@@ -162,7 +166,7 @@ fn sentence_stop(s: &[u8], from: usize, far: usize) -> Stop
             at += 1;
             continue;
         }
-        match examine(2, &s[at..]) {
+        match examine(SENTENCES, &s[at..]) {
             Seen::Whole(size) => return Stop {
                 at,
                 size,
@@ -190,7 +194,7 @@ fn sentence_stop(s: &[u8], from: usize, far: usize) -> Stop
 pub fn next_stop(family: u8, s: &[u8], from: usize, far: usize) -> Stop
     ensures { λ r. ⌜ Stops family (now (s .entry)) from far r ⌝ }
 {
-    if family == 2 {
+    if family == SENTENCES {
         return sentence_stop(s, from, far);
     }
     packet_stop(family, s, from, far)

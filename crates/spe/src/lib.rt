@@ -8,7 +8,9 @@ pub use codes::is_ack_code;
 pub use codes::is_code;
 pub use packets::is_ack;
 pub use packets::is_command;
+use rules::DATA_LENGTH;
 use rules::Frame;
+use rules::NOT_GOOD;
 use rules::Reading;
 use rules::Status;
 pub use status::is_status;
@@ -123,7 +125,7 @@ pub fn read_numbers(s: &[u8]) -> ReportNumbers
             numbers: [0u32; 20],
         };
     }
-    let numbers = numbers_at(text(s, 4, 67));
+    let numbers = numbers_at(text(s, 4, DATA_LENGTH));
     ReportNumbers {
         good: true,
         numbers,
@@ -135,9 +137,9 @@ fn read_report(s: &[u8]) -> Reading
     ensures { λ r. ⌜ r ≡ reportIn (now (s .entry)) ⌝ }
 {
     if !is_status(s) {
-        return Reading::Refused(8);
+        return Reading::Refused(NOT_GOOD);
     }
-    let status = read_values(text(s, 4, 67));
+    let status = read_values(text(s, 4, DATA_LENGTH));
     Reading::Good(Frame::Status(status))
 }
 
@@ -158,5 +160,5 @@ pub fn read_command(s: &[u8]) -> Reading
     if is_command(s) {
         return Reading::Good(Frame::Command(s[4]));
     }
-    Reading::Refused(8)
+    Reading::Refused(NOT_GOOD)
 }

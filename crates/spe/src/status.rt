@@ -1,5 +1,9 @@
 // The test of a status report as a whole, which reads no field: its frame, then its data. Its helpers leave
 // no loop early and join their tests by `&` and `|`, so that the compiler tests many bytes at once.
+use rules::DATA_LENGTH;
+use rules::REPLY_MARK;
+use rules::REPORT_COUNT;
+use rules::REPORT_LENGTH;
 use texts::sum;
 use texts::text;
 use texts::wide;
@@ -14,16 +18,19 @@ ghost use Rattle.spe.specs.ReportTests.{allFollow, lettersGood, limitsGo
 fn is_report(s: &[u8]) -> bool
     ensures { λ r. ⌜ r ≡ same (now (s .entry)) (statusFrame (dataOf (now (s .entry)))) ⌝ }
 {
-    if s.len() != 75 {
+    if s.len() != REPORT_LENGTH {
         return false;
     }
-    if !((s[0] == 0xAA) & (s[1] == 0xAA) & (s[2] == 0xAA) & (s[3] == 0x43)) {
+    if !((s[0] == REPLY_MARK)
+        & (s[1] == REPLY_MARK)
+        & (s[2] == REPLY_MARK)
+        & (s[3] == REPORT_COUNT)) {
         return false;
     }
     if !((s[73] == 0x0D) & (s[74] == 0x0A)) {
         return false;
     }
-    let sum = sum(text(s, 4, 67));
+    let sum = sum(text(s, 4, DATA_LENGTH));
     (wide(s[71]) == sum % 256) & (wide(s[72]) == sum / 256)
 }
 
@@ -125,5 +132,5 @@ pub fn is_status(s: &[u8]) -> bool
     if !is_report(s) {
         return false;
     }
-    is_data(text(s, 4, 67))
+    is_data(text(s, 4, DATA_LENGTH))
 }

@@ -1,5 +1,11 @@
 // Writers of SPE packets, which are acknowledgements and commands. Each writes into the lent output's
 // front, or refuses and leaves it as it was.
+use rules::CODE_COUNT;
+use rules::COMMAND_MARK;
+use rules::NO_CODE;
+use rules::NO_ROOM;
+use rules::PACKET_LENGTH;
+use rules::REPLY_MARK;
 use rules::Written;
 ghost use mathlib.Core.Bool.{true};
 ghost use Rattle.rules.specs.Answers.{Writes, noCode};
@@ -9,12 +15,12 @@ ghost use Rattle.rules.specs.Codes.{isCode, isAckCode, packet, ack, command};
 fn write_packet(mark: u8, code: u8, out: &mut [u8]) -> Written
     ensures { λ r. ⌜ Writes true noCode (packet mark code) (now (out .entry)) r (now (out .exit)) ⌝ }
 {
-    if out.len() < 6 {
-        return Written::Refused(4);
+    if out.len() < PACKET_LENGTH {
+        return Written::Refused(NO_ROOM);
     }
-    let bytes = [mark, mark, mark, 1, code, code];
+    let bytes = [mark, mark, mark, CODE_COUNT, code, code];
     pens::put_bytes(out, 0, &bytes);
-    Written::Length(6)
+    Written::Length(PACKET_LENGTH)
 }
 
 // An acknowledgement: six bytes.
@@ -22,9 +28,9 @@ pub fn write_ack(code: u8, out: &mut [u8]) -> Written
     ensures { λ r. ⌜ Writes (isAckCode code) noCode (ack code) (now (out .entry)) r (now (out .exit)) ⌝ }
 {
     if !spe::is_ack_code(code) {
-        return Written::Refused(2);
+        return Written::Refused(NO_CODE);
     }
-    write_packet(0xAA, code, out)
+    write_packet(REPLY_MARK, code, out)
 }
 
 // A command: six bytes.
@@ -32,7 +38,7 @@ pub fn write_command(code: u8, out: &mut [u8]) -> Written
     ensures { λ r. ⌜ Writes (isCode code) noCode (command code) (now (out .entry)) r (now (out .exit)) ⌝ }
 {
     if !spe::is_code(code) {
-        return Written::Refused(2);
+        return Written::Refused(NO_CODE);
     }
-    write_packet(0x55, code, out)
+    write_packet(COMMAND_MARK, code, out)
 }

@@ -1,4 +1,7 @@
 // The writer of a status report: into the lent output's front, or it refuses and leaves that as it was.
+use rules::NO_RECORD;
+use rules::NO_ROOM;
+use rules::REPORT_LENGTH;
 use rules::Status;
 use rules::Written;
 ghost use mathlib.Core.Path.{_≡_};
@@ -111,11 +114,11 @@ pub fn write_status(s: Status, out: &mut [u8]) -> Written
     ensures { λ r. ⌜ Writes (statusInRange s) noRecord (statusBytes s) (now (out .entry)) r (now (out .exit)) ⌝ }
 {
     if !records::status_in_range(s) {
-        return Written::Refused(3);
+        return Written::Refused(NO_RECORD);
     }
-    if out.len() < 75 {
-        return Written::Refused(4);
+    if out.len() < REPORT_LENGTH {
+        return Written::Refused(NO_ROOM);
     }
     lay_status(s, out);
-    Written::Length(75)
+    Written::Length(REPORT_LENGTH)
 }

@@ -4,6 +4,8 @@
 use crate::marks::bytes_needed;
 use crate::marks::mark_of;
 use crate::marks::payload_bytes;
+use rules::LONGEST_PAYLOAD;
+use rules::SENTENCES;
 ghost use mathlib.Core.Path.{_≡_};
 ghost use Rattle.starts.specs.Seen.{seen};
 
@@ -63,7 +65,7 @@ fn examine_sentence(s: &[u8]) -> Seen
         return Seen::Bad(1);
     }
     let n = payload_bytes(&s[1..]);
-    if 128 < n {
+    if LONGEST_PAYLOAD < n {
         return Seen::Bad(130);
     }
     if s.len() <= n + 1 {
@@ -82,7 +84,7 @@ fn examine_sentence(s: &[u8]) -> Seen
 pub fn examine(family: u8, s: &[u8]) -> Seen
     ensures { λ r. ⌜ r ≡ seen family (now (s .entry)) ⌝ }
 {
-    if family == 2 {
+    if family == SENTENCES {
         return examine_sentence(s);
     }
     examine_packet(family, s)

@@ -1,6 +1,16 @@
 // What a start is known by: the mark of its family, what a count needs and the longest frame, the first bytes of a
 // report, and the payload bytes behind a dollar sign.
 use checksums::payload_byte;
+use rules::CODE_COUNT;
+use rules::COMMAND_MARK;
+use rules::COMMANDS;
+use rules::LONGEST_SENTENCE;
+use rules::PACKET_LENGTH;
+use rules::REPLIES;
+use rules::REPLY_MARK;
+use rules::REPORT_COUNT;
+use rules::REPORT_LENGTH;
+use rules::SENTENCES;
 use texts::text;
 ghost use mathlib.Core.Path.{_≡_};
 ghost use Prim.Native.Nat.{min};
@@ -14,18 +24,22 @@ ghost use Rattle.starts.specs.Begins.{beginsReport};
 pub fn mark_of(family: u8) -> u8
     ensures { λ r. ⌜ r ≡ markOf family ⌝ }
 {
-    if family == 3 { 0x55 } else { 0xAA }
+    if family == COMMANDS {
+        COMMAND_MARK
+    } else {
+        REPLY_MARK
+    }
 }
 
 // How many bytes a count needs; 0 where it is not allowed.
 pub fn bytes_needed(family: u8, count: u8) -> usize
     ensures { λ r. ⌜ r ≡ needs family count ⌝ }
 {
-    if count == 0x01 {
-        return 6;
+    if count == CODE_COUNT {
+        return PACKET_LENGTH;
     }
-    if (family == 1) & (count == 0x43) {
-        return 75;
+    if (family == REPLIES) & (count == REPORT_COUNT) {
+        return REPORT_LENGTH;
     }
     0
 }
@@ -34,13 +48,13 @@ pub fn bytes_needed(family: u8, count: u8) -> usize
 pub fn longest_frame(family: u8) -> usize
     ensures { λ r. ⌜ r ≡ longest family ⌝ }
 {
-    if family == 1 {
-        return 75;
+    if family == REPLIES {
+        return REPORT_LENGTH;
     }
-    if family == 2 {
-        return 134;
+    if family == SENTENCES {
+        return LONGEST_SENTENCE;
     }
-    6
+    PACKET_LENGTH
 }
 
 // Whether a report begins at the first byte: three marks of family 1, and the count 43.
@@ -50,7 +64,7 @@ pub fn begins_report(s: &[u8]) -> bool
     if s.len() < 4 {
         return false;
     }
-    (s[0] == 0xAA) & (s[1] == 0xAA) & (s[2] == 0xAA) & (s[3] == 0x43)
+    (s[0] == REPLY_MARK) & (s[1] == REPLY_MARK) & (s[2] == REPLY_MARK) & (s[3] == REPORT_COUNT)
 }
 
 // Whether a block of 16 bytes is all payload bytes. No byte ends the loop, so that it can be compiled

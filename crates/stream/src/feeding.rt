@@ -9,6 +9,9 @@ use crate::stamps::advanced;
 use held_bytes::keep_part;
 use held_bytes::lay;
 use held_bytes::size;
+use rules::HOLDS_TOO_MUCH;
+use rules::IS_CLOSED;
+use rules::NO_FAMILY;
 use search::First;
 use search::Sought;
 use search::first_good;
@@ -16,6 +19,7 @@ use search::seek;
 use starts::is_family;
 use starts::longest_frame;
 use stream_rules::Answer;
+use stream_rules::PLACES;
 use stream_rules::Ready;
 use texts::further;
 use texts::text;
@@ -79,7 +83,7 @@ fn answered(at: u32, skipped: u32, next: Next) -> Moved
 // while nothing is decided. (Each way out makes its own answer: one that is made for both is copied.)
 fn take_few(
     family: u8,
-    held: &mut [u8; 133],
+    held: &mut [u8; PLACES],
     count: usize,
     at: u32,
     skipped: u32,
@@ -129,7 +133,7 @@ fn done(at: u32, skipped: u32, dropped: usize) -> Moved
 }
 
 // A call on a closed reader: the next frame of what it holds, or done.
-fn drain(family: u8, held: &mut [u8; 133], count: usize, at: u32, skipped: u32) -> Moved
+fn drain(family: u8, held: &mut [u8; PLACES], count: usize, at: u32, skipped: u32) -> Moved
     requires { ⌜ (count < longest family) × (length (now held) ≡ 133) ⌝ }
     ensures { λ m. ⌜ Drains family (now (held .entry)) count at skipped (now (held .exit)) m ⌝ }
 {
@@ -155,7 +159,7 @@ fn drain(family: u8, held: &mut [u8; 133], count: usize, at: u32, skipped: u32) 
             )
         }
         First::Nothing => {
-            *held = [0u8; 133];
+            *held = [0u8; PLACES];
             done(at, skipped, count)
         }
     }
@@ -182,30 +186,30 @@ pub fn feed_places(
     count: u8,
     at: u32,
     skipped: u32,
-    held: &mut [u8; 133],
+    held: &mut [u8; PLACES],
     offered: &[u8],
 ) -> Moved
     ensures { λ m. ⌜ FeedsPlaces family closed count (now (held .entry)) at skipped (now (offered .entry)) (now (held .exit)) m ⌝ }
 {
     // never: it tells the proof how many places the type has
-    if size(held) != 133 {
-        return refused(count, at, skipped, 6);
+    if size(held) != PLACES {
+        return refused(count, at, skipped, HOLDS_TOO_MUCH);
     }
     if !is_family(family) {
-        return refused(count, at, skipped, 1);
+        return refused(count, at, skipped, NO_FAMILY);
     }
     let used = count as usize;
     if longest_frame(family) <= used {
-        return refused(count, at, skipped, 6);
+        return refused(count, at, skipped, HOLDS_TOO_MUCH);
     }
     if closed == 0 {
-        if offered.len() <= 133 - used {
+        if offered.len() <= PLACES - used {
             return take_few(family, held, used, at, skipped, offered);
         }
         return answered(at, skipped, advance(family, held, used, offered));
     }
     if offered.len() != 0 {
-        return refused(count, at, skipped, 5);
+        return refused(count, at, skipped, IS_CLOSED);
     }
     drain(family, held, used, at, skipped)
 }

@@ -5,6 +5,7 @@ use pens::put_bytes;
 use rules::Frame;
 use search::Sought;
 use search::seek;
+use stream_rules::PLACES;
 use texts::further;
 use texts::text;
 ghost use mathlib.Core.Path.{_≡_};
@@ -80,7 +81,7 @@ fn turn_of(
     count: usize,
     taken: usize,
     skipped: usize,
-    places: &mut [u8; 133],
+    places: &mut [u8; PLACES],
 ) -> Next
     requires { ⌜ (count ≤ length (now work)) × (count < longest family) ⌝ }
     requires { ⌜ (taken + length (now work) < 2 ^ 64) × (skipped + length (now work) < 2 ^ 64) ⌝ }
@@ -89,13 +90,13 @@ fn turn_of(
     let c = search(family, work, count, taken, skipped);
     let step = c.step;
     let left = c.to - c.from;
-    *places = [0u8; 133];
+    *places = [0u8; PLACES];
     put_bytes(places, 0, text(work, c.from, left));
     Next { step, count: left }
 }
 
 // A call on a piece, which stands with the held bytes in a buffer.
-fn take_piece(family: u8, held: &mut [u8; 133], count: usize, piece: &[u8]) -> Next
+fn take_piece(family: u8, held: &mut [u8; PLACES], count: usize, piece: &[u8]) -> Next
     requires { ⌜ (count < longest family) × (count ≤ 133) × (length (now piece) ≤ 133) ⌝ }
     requires { ⌜ length (now held) ≡ 133 ⌝ }
     ensures { λ r. ⌜ turnWith r (now (held .exit)) ≡ turned (call (head family) (take count (now (held .entry))) (now (piece .entry))) ⌝ }
@@ -109,7 +110,7 @@ fn take_piece(family: u8, held: &mut [u8; 133], count: usize, piece: &[u8]) -> N
 
 // Such a call. Where a whole piece with the held bytes leaves no frame, what is kept
 // is no longer than the piece, so it is the piece's last bytes, and the call goes on from there.
-pub(crate) fn advance(family: u8, held: &mut [u8; 133], count: usize, offered: &[u8]) -> Next
+pub(crate) fn advance(family: u8, held: &mut [u8; PLACES], count: usize, offered: &[u8]) -> Next
     requires { ⌜ (count < longest family) × (count ≤ 133) ⌝ }
     requires { ⌜ length (now held) ≡ 133 ⌝ }
     ensures { λ r. ⌜ turnWith r (now (held .exit)) ≡ turned (call (head family) (take count (now (held .entry))) (now (offered .entry))) ⌝ }
@@ -117,8 +118,8 @@ pub(crate) fn advance(family: u8, held: &mut [u8; 133], count: usize, offered: &
     if count == 0 {
         return turn_of(family, offered, 0, 0, 0, held);
     }
-    let next = take_piece(family, held, count, text(offered, 0, 133));
-    if offered.len() <= 133 {
+    let next = take_piece(family, held, count, text(offered, 0, PLACES));
+    if offered.len() <= PLACES {
         return next;
     }
     let step = next.step;
@@ -126,6 +127,6 @@ pub(crate) fn advance(family: u8, held: &mut [u8; 133], count: usize, offered: &
         return next;
     };
     let kept = next.count;
-    let from = 133 - kept;
+    let from = PLACES - kept;
     turn_of(family, &offered[from..], kept, taken, skipped, held)
 }

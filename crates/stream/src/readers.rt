@@ -2,10 +2,13 @@
 // value; on a refusal it is as it was.
 use crate::feeding::feed_places;
 use held_bytes::keep_part;
+use rules::HOLDS_TOO_MUCH;
+use rules::NO_FAMILY;
 use starts::is_family;
 use starts::longest_frame;
 use stream_rules::Fed;
 use stream_rules::Outcome;
+use stream_rules::PLACES;
 use stream_rules::Reader;
 use stream_rules::Turned;
 ghost use mathlib.Core.Path.{_≡_};
@@ -45,14 +48,14 @@ pub fn close(r: Reader) -> Turned
     if !is_family(r.family) {
         return Turned {
             reader: r,
-            outcome: Outcome::Refused(1),
+            outcome: Outcome::Refused(NO_FAMILY),
         };
     }
     let count = r.count as usize;
     if longest_frame(r.family) <= count {
         return Turned {
             reader: r,
-            outcome: Outcome::Refused(6),
+            outcome: Outcome::Refused(HOLDS_TOO_MUCH),
         };
     }
     let mut held = r.held;
@@ -75,7 +78,7 @@ pub fn close(r: Reader) -> Turned
 fn empty(family: u8) -> Reader
     ensures { λ r. ⌜ r ≡ holding family 0 [] 0 0 ⌝ }
 {
-    let held = [0u8; 133];
+    let held = [0u8; PLACES];
     Reader {
         family,
         closed: 0,
@@ -94,7 +97,7 @@ pub fn fresh_reader(family: u8) -> Turned
         let none = empty(0);
         return Turned {
             reader: none,
-            outcome: Outcome::Refused(1),
+            outcome: Outcome::Refused(NO_FAMILY),
         };
     }
     let reader = empty(family);

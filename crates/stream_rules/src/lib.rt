@@ -2,6 +2,12 @@
 // them stand in specs/.
 use rules::Frame;
 
+// The held places of a reader: one fewer than the longest frame of any family has bytes.
+pub const PLACES: usize = 133;
+
+// The longest capture.
+pub const LONGEST_CAPTURE: usize = 65536;
+
 // A reader of one family's stream. Every value of it is a legal argument: the calls answer or refuse. A
 // C program holds one too, so its fields lie as C lays them, without gaps: 144 bytes.
 #[repr(C)]
@@ -11,7 +17,7 @@ pub struct Reader {
     pub closed: u8,
     // how many of the held places are used, from the first on
     pub count: u8,
-    pub held: [u8; 133],
+    pub held: [u8; PLACES],
     // the place in the stream of the first held byte, modulo 2^32
     pub at: u32,
     // the bytes skipped since the last frame, modulo 2^32

@@ -2,13 +2,14 @@
 // Standard input is the family's digit and the capture. Each line has the place that the reader has
 // reached, the part's length and its kind.
 use captures::next_at;
+use rules::NO_FAMILY;
 use std::num::wrapping_sub_u8;
 
 fn main() {
     let mut input = lines::input_buffer();
     let n = io::read_full(libc::STDIN_FILENO, &mut input);
     if n == 0 {
-        lines::print_refused(1);
+        lines::print_refused(NO_FAMILY);
         return;
     }
     let family = wrapping_sub_u8(input[0], b'0');
