@@ -24,12 +24,12 @@ ghost use mathlib.Core.Bool.{true};
 ghost use Prim.Native.Nat.{_≤_};
 ghost use lib.ListN.{length, set};
 ghost use Rattle.rules.specs.Answers.{isFamily};
-ghost use Rattle.stream_rules.specs.Lister.{frames, Lists, NextFrame};
+ghost use Rattle.stream_rules.specs.Lister.{longestCapture, frames, Lists, NextFrame};
 ghost use Rattle.captures.specs.Fills.{Fills};
 
 // Notes a start in its place, where the list has that place.
 fn note(starts: &mut [u32], n: usize, at: usize)
-    requires { ⌜ at ≤ 65536 ⌝ }
+    requires { ⌜ at ≤ longestCapture ⌝ }
     ensures { λ r. ⌜ now (starts .exit) ≡ set (now (starts .entry)) n at ⌝ }
 {
     if n < starts.len() {
@@ -39,7 +39,7 @@ fn note(starts: &mut [u32], n: usize, at: usize)
 
 // Fills in the starts of commands, as far as there are places, and gives how many there are.
 fn fill_commands(capture: &[u8], starts: &mut [u32]) -> usize
-    requires { ⌜ length (now capture) ≤ 65536 ⌝ }
+    requires { ⌜ length (now capture) ≤ longestCapture ⌝ }
     ensures { λ r. ⌜ Fills 3 (now (capture .entry)) (now (starts .entry)) r (now (starts .exit)) ⌝ }
 {
     let mut at = 0;
@@ -60,7 +60,7 @@ fn fill_commands(capture: &[u8], starts: &mut [u32]) -> usize
 // The same for acknowledgements and reports. No count is a mark; and where none stands in a count's place, no
 // frame starts in the three places behind the start.
 fn fill_replies(capture: &[u8], starts: &mut [u32]) -> usize
-    requires { ⌜ length (now capture) ≤ 65536 ⌝ }
+    requires { ⌜ length (now capture) ≤ longestCapture ⌝ }
     ensures { λ r. ⌜ Fills 1 (now (capture .entry)) (now (starts .entry)) r (now (starts .exit)) ⌝ }
 {
     let mut at = 0;
@@ -84,7 +84,7 @@ fn fill_replies(capture: &[u8], starts: &mut [u32]) -> usize
 
 // The same for sentences. None starts at a payload byte.
 fn fill_sentences(capture: &[u8], starts: &mut [u32]) -> usize
-    requires { ⌜ length (now capture) ≤ 65536 ⌝ }
+    requires { ⌜ length (now capture) ≤ longestCapture ⌝ }
     ensures { λ r. ⌜ Fills 2 (now (capture .entry)) (now (starts .entry)) r (now (starts .exit)) ⌝ }
 {
     let mut at = 0;
@@ -113,7 +113,7 @@ fn fill_sentences(capture: &[u8], starts: &mut [u32]) -> usize
 
 // Fills in the starts, as far as there are places, and gives how many there are.
 fn fill_starts(family: u8, capture: &[u8], starts: &mut [u32]) -> usize
-    requires { ⌜ (isFamily family ≡ true) × (length (now capture) ≤ 65536) ⌝ }
+    requires { ⌜ (isFamily family ≡ true) × (length (now capture) ≤ longestCapture) ⌝ }
     ensures { λ r. ⌜ Fills family (now (capture .entry)) (now (starts .entry)) r (now (starts .exit)) ⌝ }
 {
     if family == SENTENCES {
@@ -127,7 +127,7 @@ fn fill_starts(family: u8, capture: &[u8], starts: &mut [u32]) -> usize
 
 // How many frames a capture holds: the starts are filled into a list that is thrown away.
 fn count_frames(family: u8, capture: &[u8]) -> usize
-    requires { ⌜ (isFamily family ≡ true) × (length (now capture) ≤ 65536) ⌝ }
+    requires { ⌜ (isFamily family ≡ true) × (length (now capture) ≤ longestCapture) ⌝ }
     ensures { λ r. ⌜ r ≡ length (frames family (now (capture .entry))) ⌝ }
 {
     let mut list = [0u32; 1];

@@ -9,7 +9,7 @@ ghost use mathlib.Core.List.{[]};
 ghost use Prim.Native.Nat.{_+_, _≤_};
 ghost use lib.ListN.{length, take};
 ghost use Rattle.rules.specs.Bytes.{part};
-ghost use Rattle.stream_rules.specs.Streams.{filled};
+ghost use Rattle.stream_rules.specs.Streams.{placeCount, filled};
 ghost use Rattle.pens.specs.Pens.{laid};
 ghost use Rattle.held_bytes.specs.Held.{Leaves};
 
@@ -48,7 +48,7 @@ fn block_of(few: &[u8]) -> [u8; 16]
 
 // Sixteen bytes laid at a place. All are read before one is written, so that the compiler moves them at once.
 fn put_block(places: &mut [u8; PLACES], at: usize, few: &[u8])
-    requires { ⌜ (length (now few) ≡ 16) × (at + 16 ≤ 133) ⌝ }
+    requires { ⌜ (length (now few) ≡ 16) × (at + 16 ≤ placeCount) ⌝ }
     ensures { λ _. ⌜ Leaves (now (places .entry)) (laid at (now (few .entry)) (now (places .entry))) (now (places .exit)) ⌝ }
 {
     let block = block_of(few);
@@ -93,7 +93,7 @@ pub fn keep_part(places: &mut [u8; PLACES], a: usize, n: usize)
 // Whether zeros stand in all places. They are seen as nine blocks of sixteen side by side, the last of which
 // overlaps the one before it, so that the compiler tests sixteen bytes at once.
 fn is_clear(places: &[u8; PLACES]) -> bool
-    ensures { λ r. ⌜ (r ≡ true → length (now (places .entry)) ≡ 133 → now (places .entry) ≡ filled []) ⌝ }
+    ensures { λ r. ⌜ (r ≡ true → length (now (places .entry)) ≡ placeCount → now (places .entry) ≡ filled []) ⌝ }
 {
     let mut clear = true;
     let mut i = 0;

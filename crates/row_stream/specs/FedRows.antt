@@ -6,7 +6,7 @@ use mathlib.Core.List.{List}
 use lib.Dec.{eqb}
 use lib.IntN.{ℤ}
 use lib.ListN.{length}
-use Rattle.stream_rules.specs.Streams.{wrap, fed, saidToFeed}
+use Rattle.stream_rules.specs.Streams.{placeCount, wrap, fed, saidToFeed}
 use Rattle.stream_rules.specs.declared.Reader.{Reader}
 use Rattle.stream.specs.Places.{readerAt}
 use Rattle.rows.specs.Rows.{rowFed, Lays}
@@ -22,7 +22,7 @@ pub record FeedsRow (reader : Reader) (offered : List ℕ) (numbers : List ℤ) 
 -- in their type.
 abbrev pub FeedsRowAt : ℕ → ℕ → ℕ → List ℕ → ℕ → ℕ → List ℕ → List ℤ → Counts → List ℕ → List ℤ → Type 0
 FeedsRowAt family closed count held at skipped offered numbers c places left =
-    length held ≡ 133
+    length held ≡ placeCount
     → FeedsRow (readerAt family closed count held at skipped) offered numbers (c .number) (readerAt family closed (c .count) places (c .at) (c .skipped)) left
 
 -- Of the ways that only some calls take: a frame of n bytes at the front of what is offered to a reader that holds nothing has been

@@ -8,7 +8,7 @@ use lib.IntN.{ℤ}
 use lib.ListN.{length}
 use Rattle.stream_rules.specs.Streams.{wrap}
 use Rattle.starts.specs.Begins.{beginsReport}
-use Rattle.rows.specs.Rows.{row, rowWithout, front}
+use Rattle.rows.specs.Rows.{moreRow, longestRow, row, rowWithout, front}
 use Rattle.search.specs.Sought.{soughtIn}
 use Rattle.search.specs.declared.Sought.{Sought}
 use Rattle.search.specs.declared.Sought.the-variants.{Ready, Waiting}
@@ -27,7 +27,7 @@ placeOf all count (Waiting from) = record { laid = true; start = from; length = 
 abbrev pub rowOf : ℕ → ℕ → ℕ → ℕ → Sought → List ℤ
 rowOf all count at skipped (Ready hit) =
     row (max (hit .reach) count - count) (wrap (at + hit .start)) (wrap (skipped + hit .start)) (hit .length) (hit .frame)
-rowOf all count at skipped (Waiting from) = rowWithout 5 (all - count)
+rowOf all count at skipped (Waiting from) = rowWithout moreRow (all - count)
 
 pub record LaysSought (all count at skipped : ℕ) (sought : Sought) (numbers : List ℤ) (place : Place) (after : List ℤ) : Type 0 where
   pub found : place ≡ placeOf all count sought
@@ -36,8 +36,8 @@ pub record LaysSought (all count at skipped : ℕ) (sought : Sought) (numbers : 
 -- The same for any count and any numbers: with fewer numbers than the longest row has, or fewer bytes than were held, nothing is laid.
 pub record SeeksRow (family : ℕ) (bs : List ℕ) (count at skipped : ℕ) (numbers : List ℤ) (place : Place) (after : List ℤ) : Type 0 where
   pub found : place
-      ≡ cond (leb 26 (length numbers) && leb count (length bs)) (placeOf (length bs) count (soughtIn family bs))
+      ≡ cond (leb longestRow (length numbers) && leb count (length bs)) (placeOf (length bs) count (soughtIn family bs))
       (record { laid = false; start = 0; length = 0; to = 0 })
   pub laid : after
-      ≡ cond (leb 26 (length numbers) && leb count (length bs)) (front (rowOf (length bs) count at skipped (soughtIn family bs)) numbers)
+      ≡ cond (leb longestRow (length numbers) && leb count (length bs)) (front (rowOf (length bs) count at skipped (soughtIn family bs)) numbers)
       numbers

@@ -21,6 +21,8 @@ ghost use Prim.Native.Nat.{_+_, _≤_};
 ghost use lib.ListN.{length};
 ghost use Rattle.row_stream.specs.FedRows.{FeedsRowAt};
 ghost use Rattle.row_stream.specs.Going.{ReportGoesOn, SentenceGoesOn, GoesOn};
+ghost use Rattle.stream_rules.specs.Streams.{placeCount};
+ghost use Rattle.rows.specs.Rows.{longestRow};
 
 // True only where a report has begun in the held bytes, and is not whole with so many others.
 fn report_goes_on(count: usize, held: &[u8; PLACES], others: usize) -> bool
@@ -59,7 +61,7 @@ fn sentence_goes_on(count: usize, held: &[u8; PLACES], others: &[u8]) -> bool
 
 // True only of such a call. Commands are too short for it.
 pub(crate) fn goes_on(family: u8, count: u8, held: &[u8; PLACES], others: &[u8]) -> bool
-    ensures { λ r. ⌜ (r ≡ true → length (now (held .entry)) ≡ 133 → GoesOn family count (now (held .entry)) (now (others .entry))) ⌝ }
+    ensures { λ r. ⌜ (r ≡ true → length (now (held .entry)) ≡ placeCount → GoesOn family count (now (held .entry)) (now (others .entry))) ⌝ }
 {
     match family {
         REPLIES => report_goes_on(count as usize, held, others.len()),
@@ -78,7 +80,7 @@ pub(crate) fn feed_on(
     others: &[u8],
     numbers: &mut [i64],
 ) -> Counts
-    requires { ⌜ GoesOn family count (now held) (now others) × (26 ≤ length (now numbers)) × (length (now held) ≡ 133) ⌝ }
+    requires { ⌜ GoesOn family count (now held) (now others) × (longestRow ≤ length (now numbers)) × (length (now held) ≡ placeCount) ⌝ }
     ensures { λ c. ⌜ FeedsRowAt family 0 count (now (held .entry)) at skipped (now (others .entry)) (now (numbers .entry)) c (now (held .exit)) (now (numbers .exit)) ⌝ }
 {
     let used = count as usize;

@@ -37,6 +37,8 @@ ghost use lib.ListN.{length};
 ghost use Rattle.rules.specs.Answers.{isFamily};
 ghost use Rattle.stream_rules.specs.Heads.{longest};
 ghost use Rattle.row_stream.specs.FedRows.{FeedsRowAt, FrontRow};
+ghost use Rattle.stream_rules.specs.Streams.{placeCount};
+ghost use Rattle.rows.specs.Rows.{longestRow};
 
 // The number that a call gives, and what it leaves of a reader beside its held places.
 pub struct Counts {
@@ -97,7 +99,7 @@ fn feed_few(
     few: &[u8],
     numbers: &mut [i64],
 ) -> Counts
-    requires { ⌜ (isFamily family ≡ true) × (count < longest family) × (count + length (now few) ≤ 133) × (26 ≤ length (now numbers)) × (length (now held) ≡ 133) ⌝ }
+    requires { ⌜ (isFamily family ≡ true) × (count < longest family) × (count + length (now few) ≤ placeCount) × (longestRow ≤ length (now numbers)) × (length (now held) ≡ placeCount) ⌝ }
     ensures { λ c. ⌜ FeedsRowAt family 0 count (now (held .entry)) at skipped (now (few .entry)) (now (numbers .entry)) c (now (held .exit)) (now (numbers .exit)) ⌝ }
 {
     let used = count as usize;
@@ -134,7 +136,7 @@ fn front_reply(
     offered: &[u8],
     numbers: &mut [i64],
 ) -> usize
-    requires { ⌜ (26 ≤ length (now numbers)) × (length (now held) ≡ 133) ⌝ }
+    requires { ⌜ (longestRow ≤ length (now numbers)) × (length (now held) ≡ placeCount) ⌝ }
     ensures { λ n. ⌜ FrontRow 1 at skipped (now (offered .entry)) (now (held .entry)) (now (numbers .entry)) n (now (held .exit)) (now (numbers .exit)) ⌝ }
 {
     if offered.len() < REPORT_LENGTH {
@@ -159,7 +161,7 @@ fn front_command(
     offered: &[u8],
     numbers: &mut [i64],
 ) -> usize
-    requires { ⌜ (26 ≤ length (now numbers)) × (length (now held) ≡ 133) ⌝ }
+    requires { ⌜ (longestRow ≤ length (now numbers)) × (length (now held) ≡ placeCount) ⌝ }
     ensures { λ n. ⌜ FrontRow 3 at skipped (now (offered .entry)) (now (held .entry)) (now (numbers .entry)) n (now (held .exit)) (now (numbers .exit)) ⌝ }
 {
     if offered.len() < PACKET_LENGTH {
@@ -190,7 +192,7 @@ fn front_frame(
     offered: &[u8],
     numbers: &mut [i64],
 ) -> usize
-    requires { ⌜ (26 ≤ length (now numbers)) × (length (now held) ≡ 133) ⌝ }
+    requires { ⌜ (longestRow ≤ length (now numbers)) × (length (now held) ≡ placeCount) ⌝ }
     ensures { λ n. ⌜ FrontRow family at skipped (now (offered .entry)) (now (held .entry)) (now (numbers .entry)) n (now (held .exit)) (now (numbers .exit)) ⌝ }
 {
     match family {
@@ -202,14 +204,14 @@ fn front_frame(
 
 // True only of a call on an open reader, with 133 places and room for every row.
 fn is_plain(closed: u8, places: usize, room: usize) -> bool
-    ensures { λ r. ⌜ (r ≡ true → (closed ≡ 0) × (places ≡ 133) × (26 ≤ room)) ⌝ }
+    ensures { λ r. ⌜ (r ≡ true → (closed ≡ 0) × (places ≡ placeCount) × (longestRow ≤ room)) ⌝ }
 {
     (closed == 0) & (places == PLACES) & (LONGEST_ROW <= room)
 }
 
 // True only where a reader of the family may hold so many bytes, and the places have room for the others behind them.
 fn is_few(family: u8, count: u8, others: usize) -> bool
-    ensures { λ r. ⌜ (r ≡ true → (isFamily family ≡ true) × (count < longest family) × (count + others ≤ 133)) ⌝ }
+    ensures { λ r. ⌜ (r ≡ true → (isFamily family ≡ true) × (count < longest family) × (count + others ≤ placeCount)) ⌝ }
 {
     if !is_family(family) {
         return false;

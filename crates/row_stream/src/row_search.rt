@@ -18,6 +18,8 @@ ghost use lib.ListN.{length};
 ghost use Rattle.search.specs.Sought.{Stops, soughtIn};
 ghost use Rattle.search.specs.declared.Sought.the-variants.{Waiting};
 ghost use Rattle.row_stream.specs.RowSought.{ReportBegun, LaysSought, SeeksRow};
+ghost use Rattle.rules.specs.Status.{reportLength};
+ghost use Rattle.rows.specs.Rows.{longestRow};
 
 // Where such a search came to: the frame's start and length, and how far the call takes bytes; or the first
 // undecided start, the length 0, and all the bytes. Where fewer than 26 numbers are lent, or fewer bytes than
@@ -41,7 +43,7 @@ fn report_begun(family: u8, s: &[u8]) -> bool
 
 // The first stop. A report that has begun and is whole is one: the walk need not be asked.
 fn first_stop(family: u8, s: &[u8], begun: bool) -> Stop
-    requires { ⌜ (begun ≡ true → ReportBegun family (now s) × (75 ≤ length (now s))) ⌝ }
+    requires { ⌜ (begun ≡ true → ReportBegun family (now s) × (reportLength ≤ length (now s))) ⌝ }
     ensures { λ r. ⌜ Stops family (now (s .entry)) 0 0 r ⌝ }
 {
     if begun {
@@ -56,7 +58,7 @@ fn first_stop(family: u8, s: &[u8], begun: bool) -> Stop
 
 // More is wanted, from a start on.
 fn lay_waiting(all: usize, count: usize, from: usize, numbers: &mut [i64]) -> Place
-    requires { ⌜ (count ≤ all) × (26 ≤ length (now numbers)) ⌝ }
+    requires { ⌜ (count ≤ all) × (longestRow ≤ length (now numbers)) ⌝ }
     ensures { λ p. ⌜ LaysSought all count 0 0 (Waiting from) (now (numbers .entry)) p (now (numbers .exit)) ⌝ }
 {
     let number = lay_head(MORE_ROW, 0, all - count, 0, 0, 0, numbers);
@@ -78,7 +80,7 @@ fn walk(
     first: Stop,
     numbers: &mut [i64],
 ) -> Place
-    requires { ⌜ Stops family (now s) 0 0 first × (count ≤ length (now s)) × (26 ≤ length (now numbers)) ⌝ }
+    requires { ⌜ Stops family (now s) 0 0 first × (count ≤ length (now s)) × (longestRow ≤ length (now numbers)) ⌝ }
     ensures { λ p. ⌜ LaysSought (length (now (s .entry))) count at skipped (soughtIn family (now (s .entry))) (now (numbers .entry)) p (now (numbers .exit)) ⌝ }
 {
     let mut stop = first;

@@ -15,15 +15,40 @@ use Rattle.rules.specs.declared.Reading.the-variants.{Good, Refused as NotGood}
 use Rattle.stream_rules.specs.declared.Answer.{Answer}
 use Rattle.stream_rules.specs.declared.Answer.the-variants.{Ready, More, Done, Refused}
 
--- 1 is an acknowledgement, 2 a status report, 3 a command, 4 a sentence
+-- The first number of a row says what it is.
+abbrev pub ackRow : ℕ
+ackRow = 1
+
+abbrev pub statusRow : ℕ
+statusRow = 2
+
+abbrev pub commandRow : ℕ
+commandRow = 3
+
+abbrev pub sentenceRow : ℕ
+sentenceRow = 4
+
+abbrev pub moreRow : ℕ
+moreRow = 5
+
+abbrev pub doneRow : ℕ
+doneRow = 6
+
+-- the numbers before a frame's values, and those of the longest row, a status report's
+abbrev pub rowHead : ℕ
+rowHead = 6
+
+abbrev pub longestRow : ℕ
+longestRow = 26
+
 abbrev pub frameKind : Frame → ℕ
-frameKind (Ack c) = 1
-frameKind (Status s) = 2
-frameKind (Command c) = 3
-frameKind (Apa02 r) = 4
-frameKind (Apa03 r) = 4
-frameKind (Apa05 r) = 4
-frameKind (Other n) = 4
+frameKind (Ack c) = ackRow
+frameKind (Status s) = statusRow
+frameKind (Command c) = commandRow
+frameKind (Apa02 r) = sentenceRow
+frameKind (Apa03 r) = sentenceRow
+frameKind (Apa05 r) = sentenceRow
+frameKind (Other n) = sentenceRow
 
 -- the code of an acknowledgement or a command, the number of a sentence; a status report has neither
 abbrev pub frameCode : Frame → ℕ
@@ -46,14 +71,14 @@ head kind code taken start skipped size = pos kind ∷ pos code ∷ counted take
 abbrev pub row : ℕ → ℕ → ℕ → ℕ → Frame → List ℤ
 row taken start skipped size f = head (frameKind f) (frameCode f) taken start skipped size ++ values f
 
--- without a frame: 5 is more wanted, 6 is done
+-- without a frame
 abbrev pub rowWithout : ℕ → ℕ → List ℤ
 rowWithout kind taken = head kind 0 taken 0 0 0
 
 abbrev pub rowFed : Answer → List ℤ
 rowFed (Ready r) = row (r .taken) (r .start) (r .skipped) (r .length) (r .frame)
-rowFed (More n) = rowWithout 5 n
-rowFed (Done n) = rowWithout 6 n
+rowFed (More n) = rowWithout moreRow n
+rowFed (Done n) = rowWithout doneRow n
 rowFed (Refused n) = []
 
 -- of what the reader of one frame answers, with the bytes taken, the start, the bytes skipped and the length of such a frame

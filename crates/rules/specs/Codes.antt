@@ -33,6 +33,10 @@ isCode c = oneOf codes c
 unfoldable pub isAckCode : ℕ → Bool
 isAckCode c = isCode c && not (eqb c 0x90)
 
+-- a packet with a code has six bytes
+abbrev pub packetLength : ℕ
+packetLength = 6
+
 -- three marks, the count 01, the code, and its sum, which is the code again
 abbrev pub packet : ℕ → ℕ → List ℕ
 packet mark c = mark ∷ mark ∷ mark ∷ 0x01 ∷ c ∷ c ∷ []

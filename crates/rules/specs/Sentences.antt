@@ -27,6 +27,13 @@ sum1 bs = sum1From 0 bs
 abbrev pub sum2 : List ℕ → ℕ
 sum2 bs = sum2From 0 0 bs
 
+-- A payload has at most 128 bytes, and with `$`, `*` and four digits a sentence has at most 134.
+abbrev pub longestPayload : ℕ
+longestPayload = 128
+
+abbrev pub longestSentence : ℕ
+longestSentence = longestPayload + 6
+
 -- A payload is 5 to 128 bytes from 20 to 7E, neither `$` nor `*`: `APA`, two digits, and then nothing or a comma and
 -- any further bytes.
 unfoldable pub isPayloadByte : ℕ → Bool
@@ -40,7 +47,7 @@ abbrev pub isNamed : List ℕ → Bool
 isNamed p = same (take 3 p) (ascii "APA") && every isDigit (part 3 2 p) && nothingOrComma (drop 5 p)
 
 unfoldable pub isPayload : List ℕ → Bool
-isPayload p = between 5 128 (length p) && every isPayloadByte p && isNamed p
+isPayload p = between 5 longestPayload (length p) && every isPayloadByte p && isNamed p
 
 -- A frame is `$`, the payload, `*` and four uppercase hexadecimal digits that give sum2, then sum1.
 abbrev pub payloadOf : List ℕ → List ℕ

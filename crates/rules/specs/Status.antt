@@ -9,6 +9,13 @@ use Rattle.rules.specs.Bytes.{ascii, oneOf, between, every, same, first,
 use Rattle.rules.specs.Numbers.{isDigit, decimal, padded, paddedNumber, pointed, pointedNumber, withZeros, withSpaces, withPoint}
 use Rattle.rules.specs.declared.Status.{Status}
 
+-- A report has 75 bytes, of which 67 are its data.
+abbrev pub reportLength : ℕ
+reportLength = 75
+
+abbrev pub dataLength : ℕ
+dataLength = 67
+
 -- AA AA AA 43, the data, its sum modulo 256, its sum divided by 256, 0D 0A
 unfoldable pub statusFrame : List ℕ → List ℕ
 statusFrame data₁ = 0xAA ∷ 0xAA ∷ 0xAA ∷ 0x43 ∷ data₁ ++ total data₁ % 256 ∷ total data₁ / 256 ∷ 0x0D ∷ 0x0A ∷ []
@@ -107,9 +114,9 @@ statusInRange s =
     && oneOf warnings (s .warning)
     && oneOf alarms (s .alarm)
 
--- the 67 data bytes of a report
+-- the data of a report
 abbrev pub dataOf : List ℕ → List ℕ
-dataOf bs = part 4 67 bs
+dataOf bs = part 4 dataLength bs
 
 -- The bytes are, as a whole, a good status report.
 unfoldable pub isStatus : List ℕ → Bool

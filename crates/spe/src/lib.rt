@@ -22,7 +22,7 @@ ghost use mathlib.Core.List.{_++_};
 ghost use Prim.Native.Nat.{_+_, _≤_};
 ghost use lib.ListN.{length};
 ghost use Rattle.rules.specs.Bytes.{part};
-ghost use Rattle.rules.specs.Status.{readable, statusOf};
+ghost use Rattle.rules.specs.Status.{dataLength, readable, statusOf};
 ghost use Rattle.rules.specs.Answers.{Reads, statusNumbers};
 ghost use Rattle.spe.specs.Report.{weighed, numbersIn, reportIn};
 
@@ -58,7 +58,7 @@ fn four_at(d: &[u8], a: usize, b: usize) -> u32
 
 // The values of a report's data that can be read, by the places where the widths put its fields.
 fn read_values(d: &[u8]) -> Status
-    requires { ⌜ (length (now d) ≡ 67) × (readable (now d) ≡ true) ⌝ }
+    requires { ⌜ (length (now d) ≡ dataLength) × (readable (now d) ≡ true) ⌝ }
     ensures { λ r. ⌜ r ≡ statusOf (now (d .entry)) ⌝ }
 {
     Status {
@@ -88,7 +88,7 @@ fn read_values(d: &[u8]) -> Status
 // The same as twenty numbers, in the order of the fields. (They stand here a second time: numbers that are made of
 // a record wait for its bytes to be written, and a row of them is laid for each report.)
 fn numbers_at(d: &[u8]) -> [u32; 20]
-    requires { ⌜ (length (now d) ≡ 67) × (readable (now d) ≡ true) ⌝ }
+    requires { ⌜ (length (now d) ≡ dataLength) × (readable (now d) ≡ true) ⌝ }
     ensures { λ r. ⌜ r ≡ statusNumbers (statusOf (now (d .entry))) ⌝ }
 {
     [

@@ -11,7 +11,7 @@ use texts::within;
 ghost use mathlib.Core.Path.{_≡_};
 ghost use lib.ListN.{length};
 ghost use Rattle.rules.specs.Bytes.{oneOf, same};
-ghost use Rattle.rules.specs.Status.{statusFrame, dataOf, isStatus, warnings, alarms};
+ghost use Rattle.rules.specs.Status.{dataLength, statusFrame, dataOf, isStatus, warnings, alarms};
 ghost use Rattle.spe.specs.ReportTests.{allFollow, lettersGood, limitsGood, dataGood};
 
 // Whether the bytes are a report's frame around their own data: marks, count, sums, 0D 0A.
@@ -37,7 +37,7 @@ fn is_report(s: &[u8]) -> bool
 // Whether the padded numbers have their spaces in front: the byte behind a marked place may follow the
 // one at it.
 fn spaces(marks: &[u8], d: &[u8]) -> bool
-    requires { ⌜ (length (now marks) ≡ 67) × (length (now d) ≡ 67) ⌝ }
+    requires { ⌜ (length (now marks) ≡ dataLength) × (length (now d) ≡ dataLength) ⌝ }
     ensures { λ r. ⌜ r ≡ allFollow (now (marks .entry)) (now (d .entry)) ⌝ }
 {
     let mut good = true;
@@ -78,7 +78,7 @@ fn is_alarm(b: u8) -> bool
 
 // Whether each letter but the bank's is one of its field's.
 fn letters(d: &[u8]) -> bool
-    requires { ⌜ length (now d) ≡ 67 ⌝ }
+    requires { ⌜ length (now d) ≡ dataLength ⌝ }
     ensures { λ r. ⌜ r ≡ lettersGood (now (d .entry)) ⌝ }
 {
     ((d[5] == b'S') | (d[5] == b'O'))
@@ -91,7 +91,7 @@ fn letters(d: &[u8]) -> bool
 
 // Whether the fields keep the limits of their ID, which is 20K or 13K.
 fn limits(d: &[u8]) -> bool
-    requires { ⌜ length (now d) ≡ 67 ⌝ }
+    requires { ⌜ length (now d) ≡ dataLength ⌝ }
     ensures { λ r. ⌜ r ≡ limitsGood (now (d .entry)) ⌝ }
 {
     if d[1] == b'2' {
@@ -113,7 +113,7 @@ fn limits(d: &[u8]) -> bool
 // Whether a report's data keeps the rules of its fields. What it is held to is laid out only here, when
 // the frame around it is good.
 fn is_data(d: &[u8]) -> bool
-    requires { ⌜ length (now d) ≡ 67 ⌝ }
+    requires { ⌜ length (now d) ≡ dataLength ⌝ }
     ensures { λ r. ⌜ r ≡ dataGood (now (d .entry)) ⌝ }
 {
     let least = b",10K,O,R,A,1,00,0a,0r,H,   0, 0.00, 0.00, 0.0, 0.0,  0,  0,  0,A,A,";

@@ -11,7 +11,7 @@ ghost use lib.ListN.{length, take, drop};
 ghost use Rattle.pens.specs.Pens.{laid};
 ghost use Rattle.rules.specs.Answers.{Writes, noRecord};
 ghost use Rattle.rules.specs.Bytes.{part};
-ghost use Rattle.rules.specs.Status.{statusInRange, statusTexts, statusBytes, joined};
+ghost use Rattle.rules.specs.Status.{dataLength, reportLength, statusInRange, statusTexts, statusBytes, joined};
 ghost use Rattle.rules.specs.Sentences.{commas};
 ghost use Rattle.spe_writer.specs.Fields.{letter, pointIn, check};
 
@@ -35,7 +35,7 @@ fn put_point(out: &mut [u8], at: usize, d: usize, scale: u32, n: u32)
 
 // Fields 1 to 5.
 fn lay_settings(s: Status, out: &mut [u8])
-    requires { ⌜ (statusInRange s ≡ true) × (75 ≤ length (now out)) ⌝ }
+    requires { ⌜ (statusInRange s ≡ true) × (reportLength ≤ length (now out)) ⌝ }
     ensures { λ _. ⌜ now (out .exit) ≡ laid 4 (commas (take 5 (statusTexts s))) (now (out .entry)) ⌝ }
 {
     pens::put_field(out, 4, 2, s.id as u32, b'0');
@@ -48,7 +48,7 @@ fn lay_settings(s: Status, out: &mut [u8])
 
 // Fields 6 to 9.
 fn lay_antennas(s: Status, out: &mut [u8])
-    requires { ⌜ (statusInRange s ≡ true) × (75 ≤ length (now out)) ⌝ }
+    requires { ⌜ (statusInRange s ≡ true) × (reportLength ≤ length (now out)) ⌝ }
     ensures { λ _. ⌜ now (out .exit) ≡ laid 16 (commas (take 4 (drop 5 (statusTexts s)))) (now (out .entry)) ⌝ }
 {
     pens::put_field(out, 16, 2, s.band as u32, b'0');
@@ -61,7 +61,7 @@ fn lay_antennas(s: Status, out: &mut [u8])
 
 // Fields 10 to 14.
 fn lay_readings(s: Status, out: &mut [u8])
-    requires { ⌜ (statusInRange s ≡ true) × (75 ≤ length (now out)) ⌝ }
+    requires { ⌜ (statusInRange s ≡ true) × (reportLength ≤ length (now out)) ⌝ }
     ensures { λ _. ⌜ now (out .exit) ≡ laid 27 (commas (take 5 (drop 9 (statusTexts s)))) (now (out .entry)) ⌝ }
 {
     pens::put_field(out, 27, 4, s.watts, b'0');
@@ -73,7 +73,7 @@ fn lay_readings(s: Status, out: &mut [u8])
 
 // Fields 15 to 19, and the last comma.
 fn lay_state(s: Status, out: &mut [u8])
-    requires { ⌜ (statusInRange s ≡ true) × (75 ≤ length (now out)) ⌝ }
+    requires { ⌜ (statusInRange s ≡ true) × (reportLength ≤ length (now out)) ⌝ }
     ensures { λ _. ⌜ now (out .exit) ≡ laid 54 (joined (drop 14 (statusTexts s))) (now (out .entry)) ⌝ }
 {
     pens::put_field(out, 54, 3, s.upper, b' ');
@@ -86,8 +86,8 @@ fn lay_state(s: Status, out: &mut [u8])
 
 // The sum of the 67 data bytes, in two bytes, and the end of the frame.
 fn lay_check(out: &mut [u8])
-    requires { ⌜ 75 ≤ length (now out) ⌝ }
-    ensures { λ _. ⌜ now (out .exit) ≡ laid 71 (check (part 4 67 (now (out .entry)))) (now (out .entry)) ⌝ }
+    requires { ⌜ reportLength ≤ length (now out) ⌝ }
+    ensures { λ _. ⌜ now (out .exit) ≡ laid 71 (check (part 4 dataLength (now (out .entry)))) (now (out .entry)) ⌝ }
 {
     let sum = texts::sum(&out[4..71]);
     let low = (sum % 256) as u8;
@@ -98,7 +98,7 @@ fn lay_check(out: &mut [u8])
 
 // The head, the data and what stands behind it.
 fn lay_status(s: Status, out: &mut [u8])
-    requires { ⌜ (statusInRange s ≡ true) × (75 ≤ length (now out)) ⌝ }
+    requires { ⌜ (statusInRange s ≡ true) × (reportLength ≤ length (now out)) ⌝ }
     ensures { λ _. ⌜ now (out .exit) ≡ laid 0 (statusBytes s) (now (out .entry)) ⌝ }
 {
     pens::put_bytes(out, 0, b"\xAA\xAA\xAA\x43");

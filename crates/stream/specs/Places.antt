@@ -3,7 +3,7 @@ use Prim.Native.Nat.{ℕ}
 use mathlib.Core.Path.{_≡_}
 use mathlib.Core.List.{List}
 use lib.ListN.{length}
-use Rattle.stream_rules.specs.Streams.{Feeds}
+use Rattle.stream_rules.specs.Streams.{placeCount, Feeds}
 use Rattle.stream_rules.specs.declared.Reader.{Reader}
 use Rattle.stream_rules.specs.declared.Fed.{Fed}
 use Rattle.stream.specs.declared.feeding.Moved.{Moved}
@@ -25,4 +25,4 @@ fedAt family closed held m = record { reader = readerAt family closed (m .count)
 -- It is the call on that reader. There are 133 held places by their type, which is said here because a list has no such type.
 abbrev pub FeedsPlaces : ℕ → ℕ → ℕ → List ℕ → ℕ → ℕ → List ℕ → List ℕ → Moved → Type 0
 FeedsPlaces family closed count held at skipped offered left m =
-    length held ≡ 133 → Feeds (readerAt family closed count held at skipped) offered (fedAt family closed left m)
+    length held ≡ placeCount → Feeds (readerAt family closed count held at skipped) offered (fedAt family closed left m)

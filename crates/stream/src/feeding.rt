@@ -30,6 +30,7 @@ ghost use Rattle.stream_rules.specs.Heads.{longest};
 ghost use Rattle.stream_rules.specs.declared.Answer.the-variants.{Refused};
 ghost use Rattle.stream.specs.Places.{FeedsPlaces};
 ghost use Rattle.stream.specs.Turns.{StepFits, handedOut, movedBy, Takes, doneBy, Drains};
+ghost use Rattle.stream_rules.specs.Streams.{placeCount};
 
 // What a call leaves of a reader beside its held places, and what it answered.
 pub struct Moved {
@@ -55,7 +56,7 @@ fn handed_out(at: u32, skipped: u32, got: Got) -> Ready
 
 // The counts and the answer of a turn. Both counts advance by wrapping adds.
 fn answered(at: u32, skipped: u32, next: Next) -> Moved
-    requires { ⌜ (next .count ≤ 133) × StepFits (next .step) ⌝ }
+    requires { ⌜ (next .count ≤ placeCount) × StepFits (next .step) ⌝ }
     ensures { λ m. ⌜ m ≡ movedBy at skipped next ⌝ }
 {
     let step = next.step;
@@ -89,7 +90,7 @@ fn take_few(
     skipped: u32,
     few: &[u8],
 ) -> Moved
-    requires { ⌜ (count < longest family) × (count + length (now few) ≤ 133) × (length (now held) ≡ 133) ⌝ }
+    requires { ⌜ (count < longest family) × (count + length (now few) ≤ placeCount) × (length (now held) ≡ placeCount) ⌝ }
     ensures { λ m. ⌜ Takes family (now (held .entry)) count at skipped (now (few .entry)) (now (held .exit)) m ⌝ }
 {
     lay(held, count, few);
@@ -134,7 +135,7 @@ fn done(at: u32, skipped: u32, dropped: usize) -> Moved
 
 // A call on a closed reader: the next frame of what it holds, or done.
 fn drain(family: u8, held: &mut [u8; PLACES], count: usize, at: u32, skipped: u32) -> Moved
-    requires { ⌜ (count < longest family) × (length (now held) ≡ 133) ⌝ }
+    requires { ⌜ (count < longest family) × (length (now held) ≡ placeCount) ⌝ }
     ensures { λ m. ⌜ Drains family (now (held .entry)) count at skipped (now (held .exit)) m ⌝ }
 {
     let bytes = text(held, 0, count);

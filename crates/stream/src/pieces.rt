@@ -14,6 +14,7 @@ ghost use lib.ListN.{length, take};
 ghost use Rattle.stream_rules.specs.Heads.{longest, head};
 ghost use Rattle.stream_rules.specs.Rule.{call};
 ghost use Rattle.stream.specs.Turns.{callOn, turnWith, turnedFrom, turned, Cuts};
+ghost use Rattle.stream_rules.specs.Streams.{placeCount};
 
 // A frame that is ready: the bytes taken, the bytes skipped, its length, and what it says.
 pub struct Got {
@@ -97,8 +98,8 @@ fn turn_of(
 
 // A call on a piece, which stands with the held bytes in a buffer.
 fn take_piece(family: u8, held: &mut [u8; PLACES], count: usize, piece: &[u8]) -> Next
-    requires { ⌜ (count < longest family) × (count ≤ 133) × (length (now piece) ≤ 133) ⌝ }
-    requires { ⌜ length (now held) ≡ 133 ⌝ }
+    requires { ⌜ (count < longest family) × (count ≤ placeCount) × (length (now piece) ≤ placeCount) ⌝ }
+    requires { ⌜ length (now held) ≡ placeCount ⌝ }
     ensures { λ r. ⌜ turnWith r (now (held .exit)) ≡ turned (call (head family) (take count (now (held .entry))) (now (piece .entry))) ⌝ }
 {
     let mut work = [0u8; 266];
@@ -111,8 +112,8 @@ fn take_piece(family: u8, held: &mut [u8; PLACES], count: usize, piece: &[u8]) -
 // Such a call. Where a whole piece with the held bytes leaves no frame, what is kept
 // is no longer than the piece, so it is the piece's last bytes, and the call goes on from there.
 pub(crate) fn advance(family: u8, held: &mut [u8; PLACES], count: usize, offered: &[u8]) -> Next
-    requires { ⌜ (count < longest family) × (count ≤ 133) ⌝ }
-    requires { ⌜ length (now held) ≡ 133 ⌝ }
+    requires { ⌜ (count < longest family) × (count ≤ placeCount) ⌝ }
+    requires { ⌜ length (now held) ≡ placeCount ⌝ }
     ensures { λ r. ⌜ turnWith r (now (held .exit)) ≡ turned (call (head family) (take count (now (held .entry))) (now (offered .entry))) ⌝ }
 {
     if count == 0 {

@@ -7,6 +7,7 @@ use mathlib.Core.List.{List}
 use lib.Dec.{eqb, leb}
 use lib.ListN.{length, drop, getD}
 use Rattle.stream_rules.specs.Heads.{markOf, needs, payloadRun}
+use Rattle.rules.specs.Sentences.{longestPayload}
 
 -- the first byte that is no mark, or a count that is not allowed, or as many bytes as the count needs
 unfoldable pub spe-settled : ℕ → List ℕ → ℕ
@@ -21,7 +22,7 @@ spe-settled family bs =
 unfoldable pub sentence-settled : List ℕ → ℕ
 sentence-settled bs =
     cond (not (eqb (getD bs 0 0) (code "$"))) 1
-    (cond (not (leb (length (payloadRun (drop 1 bs))) 128)) 130
+    (cond (not (leb (length (payloadRun (drop 1 bs))) longestPayload)) 130
     (cond (eqb (getD bs (length (payloadRun (drop 1 bs)) + 1) 0) (code "*")) (length (payloadRun (drop 1 bs)) + 6)
     (length (payloadRun (drop 1 bs)) + 2)))
 

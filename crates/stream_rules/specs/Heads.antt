@@ -6,7 +6,9 @@ use mathlib.Core.List.{List, [], _∷_}
 use lib.Dec.{eqb, leb, ltb}
 use lib.ListN.{length, take, drop, getD}
 use Rattle.rules.specs.Bytes.{every}
-use Rattle.rules.specs.Sentences.{isPayloadByte}
+use Rattle.rules.specs.Codes.{packetLength}
+use Rattle.rules.specs.Status.{reportLength}
+use Rattle.rules.specs.Sentences.{longestPayload, longestSentence, isPayloadByte}
 use Rattle.rules.specs.Answers.{readOne}
 use Rattle.rules.specs.declared.Frame.{Frame}
 use Rattle.rules.specs.declared.Reading.{Reading}
@@ -14,7 +16,7 @@ use Rattle.rules.specs.declared.Reading.the-variants.{Good, Refused}
 
 -- The longest frame: 75 bytes of an SPE reply, 134 of a sentence, 6 of a command.
 abbrev pub longest : ℕ → ℕ
-longest family = cond (eqb family 1) 75 (cond (eqb family 2) 134 6)
+longest family = cond (eqb family 1) reportLength (cond (eqb family 2) longestSentence packetLength)
 
 -- An SPE start is undecided while there are fewer than four bytes that match the three marks as far as they go, or three
 -- marks and an allowed count with fewer bytes than that count needs. A count that is not allowed needs none.
@@ -22,7 +24,7 @@ abbrev pub markOf : ℕ → ℕ
 markOf family = cond (eqb family 3) 0x55 0xAA
 
 abbrev pub needs : ℕ → ℕ → ℕ
-needs family count = cond (eqb count 0x01) 6 (cond (eqb family 1 && eqb count 0x43) 75 0)
+needs family count = cond (eqb count 0x01) packetLength (cond (eqb family 1 && eqb count 0x43) reportLength 0)
 
 unfoldable pub spe-undecided : ℕ → List ℕ → Bool
 spe-undecided family bs =
@@ -41,7 +43,7 @@ openEnd (b ∷ bs) = eqb b (code "*") && ltb (length bs) 4
 
 abbrev pub sentence-undecided : List ℕ → Bool
 sentence-undecided [] = true
-sentence-undecided (b ∷ bs) = eqb b (code "$") && leb (length (payloadRun bs)) 128 && openEnd (drop (length (payloadRun bs)) bs)
+sentence-undecided (b ∷ bs) = eqb b (code "$") && leb (length (payloadRun bs)) longestPayload && openEnd (drop (length (payloadRun bs)) bs)
 
 unfoldable pub undecided : ℕ → List ℕ → Bool
 undecided family bs = cond (eqb family 2) (sentence-undecided bs) (spe-undecided family bs)

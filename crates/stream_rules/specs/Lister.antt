@@ -27,8 +27,11 @@ startsOf fs = map (λ (f : Found). f .start) fs
 abbrev pub tooLong : ℕ
 tooLong = 7
 
+abbrev pub longestCapture : ℕ
+longestCapture = 65536
+
 abbrev pub fits : List ℕ → Bool
-fits capture = leb (length capture) 65536
+fits capture = leb (length capture) longestCapture
 
 -- The lister: refusal 1, then 7, then 4 where the list is shorter than the answer needs; else how many starts. They stand
 -- at the front of the list, its rest is unchanged, and on a refusal all of it is.

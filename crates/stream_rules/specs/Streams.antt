@@ -30,9 +30,13 @@ holds family = longest family - 1
 abbrev pub heldOf : Reader → List ℕ
 heldOf r = take (r .count) (r .held)
 
--- bytes in the 133 held places, from the first on, with zeros in the unused ones
+-- There are 133 held places, whatever the family.
+abbrev pub placeCount : ℕ
+placeCount = 133
+
+-- bytes in the held places, from the first on, with zeros in the unused ones
 abbrev pub filled : List ℕ → List ℕ
-filled bytes = bytes ++ replicate (133 - length bytes) 0
+filled bytes = bytes ++ replicate (placeCount - length bytes) 0
 
 -- the state that holds these bytes
 abbrev pub holding : ℕ → ℕ → List ℕ → ℕ → ℕ → Reader
