@@ -1,16 +1,22 @@
 // Prints what the library makes of each line of standard input, for comparison with a stored output.
 // A family digit, a space and a frame, either as it stands, from `$` on, or in hexadecimal digits:
-// what the reader of one frame makes of it. An `l` or an `r`, the family digit, a space and
-// hexadecimal digits: the listing of a capture, or the replay of a script. A line that begins with
-// `#` is a heading and is printed as it is.
+// what the reader of one frame makes of it. A letter, the family digit, a space and hexadecimal digits: with `l` the listing of
+// a capture, with `r` the replay of a script, with `w` a capture walked by the capture reader, with `p` a stream run through
+// the lent reader. A line that begins with `#` is a heading and is printed as it is.
 //
 // What is printed is tested, not proved: the contracts only keep indices in range.
+mod panel;
+mod walks;
+
 use listings::print_listing;
 use replays::print_replay;
 use rules::Reading;
 use std::num::wrapping_sub_u8;
 ghost use Prim.Native.Nat.{_≤_};
 ghost use lib.ListN.{length};
+
+// Room for the bytes of a line.
+const ROOM: usize = 1024;
 
 fn main() {
     let mut text = io::large_buffer();
@@ -51,7 +57,7 @@ fn print_answer(line: &[u8]) {
         lines::print_text(line);
         return;
     }
-    if texts::one_of(b"lr", line[0]) {
+    if texts::one_of(b"lrwp", line[0]) {
         print_run(line);
         return;
     }
@@ -66,7 +72,7 @@ fn print_answer(line: &[u8]) {
     print_hex(family, frame);
 }
 
-// The listing of a capture, or the replay of a script.
+// What a letter asks for.
 fn print_run(line: &[u8]) {
     if line.len() < 3 {
         lines::print_text(b"bad line");
@@ -74,21 +80,22 @@ fn print_run(line: &[u8]) {
     }
     let family = wrapping_sub_u8(line[1], b'0');
     let digits = &line[3..];
-    let mut bytes = [0u8; 256];
+    let mut bytes = [0u8; ROOM];
     let n = from_hex(digits, &mut bytes);
     if n + n != digits.len() {
         lines::print_text(b"bad line");
         return;
     }
-    if line[0] == b'l' {
-        print_listing(family, &bytes[0..n]);
-    } else {
-        print_replay(family, &bytes[0..n]);
+    match line[0] {
+        b'l' => print_listing(family, &bytes[0..n]),
+        b'r' => print_replay(family, &bytes[0..n]),
+        b'w' => walks::print_walks(family, &bytes[0..n]),
+        _ => panel::print_stream(family, &bytes[0..n]),
     }
 }
 
 fn print_hex(family: u8, digits: &[u8]) {
-    let mut bytes = [0u8; 256];
+    let mut bytes = [0u8; ROOM];
     let n = from_hex(digits, &mut bytes);
     if n + n == digits.len() {
         print_frame(family, &bytes[0..n]);

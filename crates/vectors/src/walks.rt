@@ -1,22 +1,12 @@
-// Walks a capture to its end by the capture reader, twice: every frame, then only the reports.
-// Standard input is the family's digit and the capture. Each line has the place that the reader has
-// reached, the part's length and its kind.
+// A capture walked to its end by the capture reader, twice: every frame, then only the reports. Each line has the place
+// that the reader has reached, the part's length and its kind.
 use captures::next_at;
-use rules::NO_FAMILY;
-use std::num::wrapping_sub_u8;
 
-fn main() {
-    let mut input = lines::input_buffer();
-    let n = io::read_full(libc::STDIN_FILENO, &mut input);
-    if n == 0 {
-        lines::print_refused(NO_FAMILY);
-        return;
-    }
-    let family = wrapping_sub_u8(input[0], b'0');
+pub(crate) fn print_walks(family: u8, capture: &[u8]) {
     lines::print_text(b"every frame");
-    print_walk(family, &input[1..n], false);
+    print_walk(family, capture, false);
     lines::print_text(b"only reports");
-    print_walk(family, &input[1..n], true);
+    print_walk(family, capture, true);
 }
 
 fn print_walk(family: u8, capture: &[u8], reports: bool) {

@@ -1,4 +1,4 @@
--- `reports::print_pieces` ends: each piece has at least one byte.
+-- `vectors::panel::print_pieces` ends: each piece has at least one byte.
 -- Assumes nothing.
 use Prim.Native.Nat.{ℕ, _+_, _-_, _≤_, _<_}
 use mathlib.Core.Path.{_≡_, ap}
@@ -7,8 +7,8 @@ use native.Mathlib.Omega.{arith}
 use borrow.Author.Needs.{needs}
 use lib.ListN.{length, drop, length-take, length-drop}
 use Rattle.rules.specs.Bytes.{part}
-use Rattle.reports.proofs.print_pieces.Statement.{statement}
-use Rattle.reports.proofs.print_pieces.Tie as tie
+use Rattle.vectors.proofs.panel.print_pieces.Statement.{statement}
+use Rattle.vectors.proofs.panel.print_pieces.Tie as tie
 
 abbrev Inv-loop : tie.InvT-loop
 Inv-loop stream reader₀ at₀ reader at = at ≤ length stream

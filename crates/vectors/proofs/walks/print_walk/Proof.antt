@@ -1,4 +1,4 @@
--- `walk::print_walk` ends: with each frame the reader goes on.
+-- `vectors::walks::print_walk` ends: with each frame the reader goes on.
 -- Assumes nothing.
 use Prim.Native.Nat.{_-_, _≤_, _<_}
 use mathlib.Core.Path.{ap, _∙_}
@@ -7,8 +7,8 @@ use borrow.Author.Needs.{needs}
 use lib.ListN.{length}
 use Rattle.captures.specs.Finds.{nextIn}
 use Rattle.captures.proofs.Standing.{spanned, advances}
-use Rattle.walk.proofs.print_walk.Statement.{statement}
-use Rattle.walk.proofs.print_walk.Tie as tie
+use Rattle.vectors.proofs.walks.print_walk.Statement.{statement}
+use Rattle.vectors.proofs.walks.print_walk.Tie as tie
 
 abbrev Inv-loop : tie.InvT-loop
 Inv-loop family capture reports place₀ place = (place ≤ length capture)

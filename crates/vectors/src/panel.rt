@@ -1,9 +1,6 @@
-// Runs a stream through the reader that is lent for each call, and prints only the reports: standard
-// input is the family's digit and the stream, which is offered in pieces of 16 bytes, then closed and
-// drained.
+// A stream run through the reader that is lent for each call, in pieces of 16 bytes, then closed and drained; only the
+// reports are printed.
 use rules::Frame;
-use rules::NO_FAMILY;
-use std::num::wrapping_sub_u8;
 use stream::closed_lent;
 use stream::fed_lent;
 use stream_rules::Answer;
@@ -12,17 +9,7 @@ use stream_rules::Reader;
 use stream_rules::Ready;
 use texts::text;
 
-fn main() {
-    let mut input = lines::input_buffer();
-    let n = io::read_full(libc::STDIN_FILENO, &mut input);
-    if n == 0 {
-        lines::print_refused(NO_FAMILY);
-        return;
-    }
-    print_stream(wrapping_sub_u8(input[0], b'0'), &input[1..n]);
-}
-
-fn print_stream(family: u8, stream: &[u8]) {
+pub(crate) fn print_stream(family: u8, stream: &[u8]) {
     let made = stream::fresh_reader(family);
     let outcome = made.outcome;
     match outcome {

@@ -1,12 +1,12 @@
--- `reports::print_reports` ends: with each frame that is handed out, fewer bytes are held and left to offer.
+-- `vectors::panel::print_reports` ends: with each frame that is handed out, fewer bytes are held and left to offer.
 -- Assumes nothing.
 use Prim.Native.Nat.{_+_, _-_, _≤_}
 use native.Mathlib.Omega.{arith}
 use borrow.Author.Needs.{needs}
 use lib.ListN.{length}
 use Rattle.stream_laws.proofs.Families.{Fewer, offers-rest}
-use Rattle.reports.proofs.print_reports.Statement.{statement}
-use Rattle.reports.proofs.print_reports.Tie as tie
+use Rattle.vectors.proofs.panel.print_reports.Statement.{statement}
+use Rattle.vectors.proofs.panel.print_reports.Tie as tie
 
 abbrev Inv-loop : tie.InvT-loop
 Inv-loop offered reader₀ at₀ reader at = at ≤ length offered
