@@ -1,7 +1,7 @@
 /* What a C program needs of libamp.a: reading and writing the serial frames of SPE amplifiers and of
  * the Alpha 9500. Every function is proved; crates/amp has the statements. What each gives back and leaves
- * stands in crates/amp/specs/Boundary.antt; of amp_feed in crates/fed_rows/specs/FedRows.antt, of the
- * writers in crates/given/specs/Given.antt.
+ * stands in crates/amp/specs/Boundary.antt; of amp_feed in crates/row_stream/specs/FedRows.antt, of the
+ * writers in crates/row_writer/specs/Given.antt.
  *
  * Families: 1 SPE amplifier to host, 2 Alpha 9500, 3 host to SPE amplifier.
  *

@@ -6,7 +6,7 @@ from pathlib import Path
 
 ROOT = Path(__file__).resolve().parent.parent
 RULES = ('rules', 'stream_rules')  # the crates whose definitions have a meaning outside
-PRINTING = 'listing replay vectors walk reports'.split()  # the programs: they print, and promise nothing
+PRINTING = 'listing replay vectors'.split()  # the programs: they print, and promise nothing
 NUMBERS = 'u8 u16 u32 u64 usize i8 i16 i32 i64 isize'.split()
 SYMMETRIC = re.compile(r'eqb|max|min|wrapping_add_\w+')  # swapped operands make no difference
 CODE_TURNED = {'<': '<=', '<=': '<', '>': '>=', '>=': '>', '==': '!=', '!=': '==', '+': '-', '-': '+', '+=': '-=',
