@@ -26,7 +26,7 @@ use Rattle.row_stream.specs.RowSought.{placeOf, rowOf, SeeksRow}
 use Rattle.search.specs.declared.Hit.{Hit}
 use Rattle.search.specs.declared.Sought.{Sought}
 use Rattle.search.specs.declared.Sought.the-variants.{Ready, Waiting}
-use Rattle.row_stream.specs.declared.row_search.Place.{Place}
+use Rattle.row_stream.specs.declared.short_ways.row_search.Place.{Place}
 use Rattle.rows.specs.Rows.{rowWithout, front}
 use Rattle.stream.specs.Places.{readerAt, fedAt}
 use Rattle.stream.specs.Turns.{turned, callOn, movedStep, Cuts}

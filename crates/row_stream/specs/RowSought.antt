@@ -12,7 +12,7 @@ use Rattle.rows.specs.Rows.{moreRow, longestRow, row, rowWithout, front}
 use Rattle.search.specs.Sought.{soughtIn}
 use Rattle.search.specs.declared.Sought.{Sought}
 use Rattle.search.specs.declared.Sought.the-variants.{Ready, Waiting}
-use Rattle.row_stream.specs.declared.row_search.Place.{Place}
+use Rattle.row_stream.specs.declared.short_ways.row_search.Place.{Place}
 
 -- a report begins at the first byte, of family 1
 abbrev pub ReportBegun : ℕ → List ℕ → Type 0
