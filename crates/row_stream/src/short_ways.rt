@@ -24,10 +24,7 @@ use stream::advanced;
 use stream_rules::PLACES;
 ghost use mathlib.Core.Path.{_≡_};
 ghost use mathlib.Core.Bool.{true};
-ghost use Prim.Native.Nat.{_≤_};
-ghost use Rattle.row_stream.specs.Short.{TriesShort};
-ghost use Rattle.stream_rules.specs.Streams.{placeCount};
-ghost use Rattle.rows.specs.Rows.{longestRow};
+ghost use Rattle.row_stream.specs.Short.{IsPlain, TriesShort};
 
 // A short way was taken, with what the call leaves; or none was, and nothing is changed.
 pub(crate) enum Short {
@@ -37,7 +34,7 @@ pub(crate) enum Short {
 
 // True only of a call on an open reader, with 133 places and room for every row.
 fn is_plain(closed: u8, places: usize, room: usize) -> bool
-    ensures { λ r. ⌜ (r ≡ true → (closed ≡ 0) × (places ≡ placeCount) × (longestRow ≤ room)) ⌝ }
+    ensures { λ r. ⌜ (r ≡ true → IsPlain closed places room) ⌝ }
 {
     (closed == 0) & (places == PLACES) & (LONGEST_ROW <= room)
 }

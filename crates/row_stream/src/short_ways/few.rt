@@ -11,17 +11,13 @@ use stream_rules::PLACES;
 use texts::text;
 ghost use mathlib.Core.Path.{_≡_};
 ghost use mathlib.Core.Bool.{true};
-ghost use Prim.Native.Nat.{_+_, _≤_, _<_};
 ghost use lib.ListN.{length};
-ghost use Rattle.rules.specs.Answers.{isFamily};
-ghost use Rattle.stream_rules.specs.Heads.{longest};
 ghost use Rattle.row_stream.specs.FedRows.{FeedsRowAt};
-ghost use Rattle.stream_rules.specs.Streams.{placeCount};
-ghost use Rattle.rows.specs.Rows.{longestRow};
+ghost use Rattle.row_stream.specs.Short.{HasRoom, IsFew};
 
 // True only where a reader of the family may hold so many bytes, and the places have room for the others behind them.
 pub(crate) fn is_few(family: u8, count: u8, others: usize) -> bool
-    ensures { λ r. ⌜ (r ≡ true → (isFamily family ≡ true) × (count < longest family) × (count + others ≤ placeCount)) ⌝ }
+    ensures { λ r. ⌜ (r ≡ true → IsFew family count others) ⌝ }
 {
     if !is_family(family) {
         return false;
@@ -43,7 +39,7 @@ pub(crate) fn feed_few(
     few: &[u8],
     numbers: &mut [i64],
 ) -> Counts
-    requires { ⌜ (isFamily family ≡ true) × (count < longest family) × (count + length (now few) ≤ placeCount) × (longestRow ≤ length (now numbers)) × (length (now held) ≡ placeCount) ⌝ }
+    requires { ⌜ IsFew family count (length (now few)) × HasRoom (now held) (now numbers) ⌝ }
     ensures { λ c. ⌜ FeedsRowAt family 0 count (now (held .entry)) at skipped (now (few .entry)) (now (numbers .entry)) c (now (held .exit)) (now (numbers .exit)) ⌝ }
 {
     let used = count as usize;

@@ -11,12 +11,7 @@ use rules::REPORT_LENGTH;
 use spe::is_command;
 use starts::bytes_needed;
 use stream_rules::PLACES;
-ghost use mathlib.Core.Path.{_≡_};
-ghost use Prim.Native.Nat.{_≤_};
-ghost use lib.ListN.{length};
-ghost use Rattle.row_stream.specs.FedRows.{FrontRow};
-ghost use Rattle.stream_rules.specs.Streams.{placeCount};
-ghost use Rattle.rows.specs.Rows.{longestRow};
+ghost use Rattle.row_stream.specs.Short.{HasRoom, FrontRow};
 
 // Hands out the good acknowledgement or report at the front of many bytes that are offered to a reader that holds
 // nothing: its row is laid, zeros are left in the places, and its length is given back. 0 where none is handed out
@@ -28,7 +23,7 @@ fn front_reply(
     offered: &[u8],
     numbers: &mut [i64],
 ) -> usize
-    requires { ⌜ (longestRow ≤ length (now numbers)) × (length (now held) ≡ placeCount) ⌝ }
+    requires { ⌜ HasRoom (now held) (now numbers) ⌝ }
     ensures { λ n. ⌜ FrontRow 1 at skipped (now (offered .entry)) (now (held .entry)) (now (numbers .entry)) n (now (held .exit)) (now (numbers .exit)) ⌝ }
 {
     if offered.len() < REPORT_LENGTH {
@@ -53,7 +48,7 @@ fn front_command(
     offered: &[u8],
     numbers: &mut [i64],
 ) -> usize
-    requires { ⌜ (longestRow ≤ length (now numbers)) × (length (now held) ≡ placeCount) ⌝ }
+    requires { ⌜ HasRoom (now held) (now numbers) ⌝ }
     ensures { λ n. ⌜ FrontRow 3 at skipped (now (offered .entry)) (now (held .entry)) (now (numbers .entry)) n (now (held .exit)) (now (numbers .exit)) ⌝ }
 {
     if offered.len() < PACKET_LENGTH {
@@ -84,7 +79,7 @@ pub(crate) fn front_frame(
     offered: &[u8],
     numbers: &mut [i64],
 ) -> usize
-    requires { ⌜ (longestRow ≤ length (now numbers)) × (length (now held) ≡ placeCount) ⌝ }
+    requires { ⌜ HasRoom (now held) (now numbers) ⌝ }
     ensures { λ n. ⌜ FrontRow family at skipped (now (offered .entry)) (now (held .entry)) (now (numbers .entry)) n (now (held .exit)) (now (numbers .exit)) ⌝ }
 {
     match family {

@@ -17,12 +17,11 @@ use stream_rules::PLACES;
 use texts::text;
 ghost use mathlib.Core.Path.{_≡_};
 ghost use mathlib.Core.Bool.{true};
-ghost use Prim.Native.Nat.{_+_, _≤_};
 ghost use lib.ListN.{length};
 ghost use Rattle.row_stream.specs.FedRows.{FeedsRowAt};
 ghost use Rattle.row_stream.specs.Going.{ReportGoesOn, SentenceGoesOn, GoesOn};
 ghost use Rattle.stream_rules.specs.Streams.{placeCount};
-ghost use Rattle.rows.specs.Rows.{longestRow};
+ghost use Rattle.row_stream.specs.Short.{HasRoom};
 
 // True only where a report has begun in the held bytes, and is not whole with so many others.
 fn report_goes_on(count: usize, held: &[u8; PLACES], others: usize) -> bool
@@ -80,7 +79,7 @@ pub(crate) fn feed_on(
     others: &[u8],
     numbers: &mut [i64],
 ) -> Counts
-    requires { ⌜ GoesOn family count (now held) (now others) × (longestRow ≤ length (now numbers)) × (length (now held) ≡ placeCount) ⌝ }
+    requires { ⌜ GoesOn family count (now held) (now others) × HasRoom (now held) (now numbers) ⌝ }
     ensures { λ c. ⌜ FeedsRowAt family 0 count (now (held .entry)) at skipped (now (others .entry)) (now (numbers .entry)) c (now (held .exit)) (now (numbers .exit)) ⌝ }
 {
     let used = count as usize;

@@ -1,6 +1,5 @@
 // A search that lays the row of what it finds: a frame's, where the frame stands, or that of "more wanted". No frame is
 // handed on, so that none is copied.
-use rows::LONGEST_ROW;
 use rows::MORE_ROW;
 use rows::lay_head;
 use rows::read_row;
@@ -17,15 +16,13 @@ ghost use Prim.Native.Nat.{_≤_};
 ghost use lib.ListN.{length};
 ghost use Rattle.search.specs.Sought.{Stops, soughtIn};
 ghost use Rattle.search.specs.declared.Sought.the-variants.{Waiting};
-ghost use Rattle.row_stream.specs.RowSought.{ReportBegun, LaysSought, SeeksRow};
+ghost use Rattle.row_stream.specs.RowSought.{ReportBegun, LaysSought};
 ghost use Rattle.rules.specs.Status.{reportLength};
 ghost use Rattle.rows.specs.Rows.{longestRow};
 
 // Where such a search came to: the frame's start and length, and how far the call takes bytes; or the first
-// undecided start, the length 0, and all the bytes. Where fewer than 26 numbers are lent, or fewer bytes than
-// were held, nothing is searched and nothing laid, and the rest is 0.
+// undecided start, the length 0, and all the bytes.
 pub(crate) struct Place {
-    pub laid: bool,
     pub start: usize,
     pub length: usize,
     pub to: usize,
@@ -61,9 +58,8 @@ fn lay_waiting(all: usize, count: usize, from: usize, numbers: &mut [i64]) -> Pl
     requires { ⌜ (count ≤ all) × (longestRow ≤ length (now numbers)) ⌝ }
     ensures { λ p. ⌜ LaysSought all count 0 0 (Waiting from) (now (numbers .entry)) p (now (numbers .exit)) ⌝ }
 {
-    let number = lay_head(MORE_ROW, 0, all - count, 0, 0, 0, numbers);
+    lay_head(MORE_ROW, 0, all - count, 0, 0, 0, numbers);
     Place {
-        laid: number == 0,
         start: from,
         length: 0,
         to: all,
@@ -99,7 +95,6 @@ fn walk(
         );
         if number == 0 {
             return Place {
-                laid: true,
                 start,
                 length: size,
                 to,
@@ -110,8 +105,8 @@ fn walk(
     lay_waiting(s.len(), count, stop.at, numbers)
 }
 
-// The first start that is not bad, and the row of what stands there. (A report that begins at the first
-// byte and is not whole is answered at once, without a walk.)
+// The first start that is not bad, and the row of what stands there. A report that begins at the first byte and is not
+// whole is undecided.
 pub(crate) fn seek_row(
     family: u8,
     s: &[u8],
@@ -120,16 +115,9 @@ pub(crate) fn seek_row(
     skipped: u32,
     numbers: &mut [i64],
 ) -> Place
-    ensures { λ p. ⌜ SeeksRow family (now (s .entry)) count at skipped (now (numbers .entry)) p (now (numbers .exit)) ⌝ }
+    requires { ⌜ (count ≤ length (now s)) × (longestRow ≤ length (now numbers)) ⌝ }
+    ensures { λ p. ⌜ LaysSought (length (now (s .entry))) count at skipped (soughtIn family (now (s .entry))) (now (numbers .entry)) p (now (numbers .exit)) ⌝ }
 {
-    if (numbers.len() < LONGEST_ROW) | (s.len() < count) {
-        return Place {
-            laid: false,
-            start: 0,
-            length: 0,
-            to: 0,
-        };
-    }
     let begun = report_begun(family, s);
     if begun & (s.len() < REPORT_LENGTH) {
         return lay_waiting(s.len(), count, 0, numbers);

@@ -11,7 +11,11 @@ returns c = λ told.
     let a = c .args in
     let last = both _ (leb 26 (a .room)) told in
     let first = both (eqb (a .closed) 0) (eqb (a .places) 133) (last .0) in
-    (eqb-true (a .closed) 0 (first .0), eqb-true (a .places) 133 (first .1), leb-true 26 (a .room) (last .1))
+    record {
+      opened = eqb-true (a .closed) 0 (first .0);
+      places-all = eqb-true (a .places) 133 (first .1);
+      row = leb-true 26 (a .room) (last .1);
+    }
 
 pub is-plain-spec : {M : Type 1} → statement M
 is-plain-spec = tie.close (tie.spec returns)

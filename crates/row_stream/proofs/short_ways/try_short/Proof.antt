@@ -1,14 +1,15 @@
 -- `short_ways::try_short` meets its contract: each short way is the call on that reader, and where none is taken, nothing is changed.
 -- Assumes nothing.
-use Prim.Native.Nat.{ℕ, _≤_}
+use Prim.Native.Nat.{ℕ}
 use mathlib.Core.Path.{_≡_, sym, ap, _∙_}
 use mathlib.Core.List.{List}
 use mathlib.Core.Logic.{⊎-elim}
-use native.Mathlib.Omega.{arith}
 use borrow.Author.Tests.{not-false}
+use native.Mathlib.Omega.{arith}
 use lib.IntN.{ℤ}
 use lib.ListN.{length}
 use Rattle.row_stream.specs.FedRows.{FeedsRowAt}
+use Rattle.row_stream.specs.Short.{HasRoom, IsPlain}
 use Rattle.row_stream.specs.declared.Counts.{Counts}
 use borrow.Author.Needs.{needs}
 use Rattle.row_stream.proofs.short_ways.try_short.Statement.{statement}
@@ -19,11 +20,14 @@ module _ (e : tie.Else1) where
   abbrev start : tie.Start
   start = e .before .before .before .before .before .before
 
-  told : (start .args .closed ≡ 0) × (e .before .before .size .result ≡ 133) × (26 ≤ length (start .args .numbers .now))
+  told : IsPlain (start .args .closed) (e .before .before .size .result) (length (start .args .numbers .now))
   told = e .before .is-plain .ensures (not-false _ (e .if1 .left))
 
   places : length (start .args .held .now) ≡ 133
-  places = sym (e .before .before .size .ensures) ∙ told .1
+  places = sym (e .before .before .size .ensures) ∙ told .places-all
+
+  room : HasRoom (start .args .held .now) (start .args .numbers .now)
+  room = record { row = told .row; places = places }
 
 -- where no frame has been handed out from the front, nothing is changed
 unchanged : (j : tie.Joined2) → (j .if2 .held ≡ start (j .before) .args .held .now) × (j .if2 .numbers ≡ start (j .before) .args .numbers .now)
@@ -32,6 +36,9 @@ unchanged j =
     (λ w. let none = w .3 .ensures .none (w .5 .left) in (w .6 ∙ none .0, w .7 ∙ none .1))
     (λ w. (w .4, w .5))
     (j .if2 .came)
+
+same-room : {held places : List ℕ} {numbers row : List ℤ} → HasRoom held numbers → (places ≡ held) × (row ≡ numbers) → HasRoom places row
+same-room room same = record { row = omega (arith, room .row, ap length (same .1)); places = ap length (same .0) ∙ room .places }
 
 -- so what a call then does is what the call does
 module _ (family closed count at skipped : ℕ) (held places offered after : List ℕ) (numbers row left : List ℤ) (c : Counts) where
@@ -49,7 +56,7 @@ returns : tie.Need-returns
 returns c = search needs
 
 front-frame-requires : tie.Need-front-frame-requires
-front-frame-requires c κs = let e = c .before .before .before in (told e .2, places e)
+front-frame-requires c κs = room (c .before .before .before)
 
 advanced-requires : tie.Need-advanced-requires
 advanced-requires c κs = search needs
@@ -63,7 +70,7 @@ same-length c = search needs
 returns-2 : tie.Need-returns-2
 returns-2 c = λ long.
     let then = c .before .before .before .before .before .before .before in
-    rw (c .left-so .ensures, told (then .before) .0, then .if2 .taken, c .before .advanced .ensures)
+    rw (c .left-so .ensures, told (then .before) .opened, then .if2 .taken, c .before .advanced .ensures)
     (c .before .before .before .before .front-frame .ensures .handed (c .before .before .if3 .taken))
 
 goes-on-requires : tie.Need-goes-on-requires
@@ -73,13 +80,13 @@ feed-on-requires : tie.Need-feed-on-requires
 feed-on-requires c κs =
     let then = c .before .before in
     let e = c .before .before .before .before .before .before in
-    (then .before .goes-on .ensures (then .if4 .taken) (places e), told e .2, places e)
+    (then .before .goes-on .ensures (then .if4 .taken) (places e), room e)
 
 same-length-2 : tie.Need-same-length-2
 same-length-2 c = search needs
 
 returns-3 : tie.Need-returns-3
-returns-3 c = let e = c .before .before .before .before .before .before .before .before in rw (told e .0) (c .before .feed-on .ensures)
+returns-3 c = let e = c .before .before .before .before .before .before .before .before in rw (told e .opened) (c .before .feed-on .ensures)
 
 is-few-requires : tie.Need-is-few-requires
 is-few-requires c κs = search needs
@@ -88,9 +95,7 @@ feed-few-requires : tie.Need-feed-few-requires
 feed-few-requires c κs =
     let then = c .before .before in
     let j = then .before .before in
-    let few = then .before .is-few .ensures (then .if5 .taken) in
-    let same = unchanged j in
-    (few .0, few .1, few .2, omega (arith, told (j .before) .2, ap length (same .1)), ap length (same .0) ∙ places (j .before))
+    (then .before .is-few .ensures (then .if5 .taken), same-room (room (j .before)) (unchanged j))
 
 same-length-3 : tie.Need-same-length-3
 same-length-3 c = c .numbers3 .given ∙ ap length (unchanged (c .before .before .before .before .before .before) .1)
@@ -98,7 +103,7 @@ same-length-3 c = c .numbers3 .given ∙ ap length (unchanged (c .before .before
 returns-4 : tie.Need-returns-4
 returns-4 c =
     let j = c .before .before .before .before .before .before in
-    as-before _ _ _ _ _ _ _ _ _ _ _ _ _ (sym (told (j .before) .0)) (unchanged j) (c .before .feed-few .ensures)
+    as-before _ _ _ _ _ _ _ _ _ _ _ _ _ (sym (told (j .before) .opened)) (unchanged j) (c .before .feed-few .ensures)
 
 same-length-4 : tie.Need-same-length-4
 same-length-4 c = ap length (unchanged (c .before .before) .1)

@@ -1,5 +1,5 @@
--- `short_ways::few::feed_few` meets its contract: the held bytes and the few stand at the front of the places, so what the search has found and
--- laid there is what the call does.
+-- `short_ways::few::feed_few` meets its contract: the held bytes and the few stand at the front of the places, so what the search has
+-- found and laid there is what the call does.
 -- Assumes nothing.
 use Prim.Native.Nat.{ℕ, _+_, _-_, _≤_}
 use mathlib.Core.Path.{_≡_, sym, ap, _∙_}
@@ -8,36 +8,69 @@ use native.Mathlib.Omega.{arith}
 use lib.IntN.{ℤ}
 use lib.ListN.{length, take}
 use Rattle.rules.specs.Bytes.{part}
+use Rattle.stream_rules.specs.Streams.{filled}
 use Rattle.stream_laws.proofs.States.{longest-fits}
-use Rattle.row_stream.specs.declared.short_ways.row_search.Place.{Place}
 use Rattle.pens.specs.Pens.{laid as laidAt}
 use Rattle.held_bytes.proofs.Appending.{at-front, front-long, still-133}
 use Rattle.held_bytes.proofs.Keeping.{part-of-front}
+use Rattle.row_stream.specs.Short.{IsFew}
+use Rattle.row_stream.specs.declared.short_ways.row_search.Place.{Place}
 use Rattle.row_stream.proofs.Few.{FewAt, few-at}
 use borrow.Author.Needs.{needs}
-use Rattle.stream_rules.specs.Streams.{filled}
 use Rattle.row_stream.proofs.short_ways.few.feed_few.Statement.{statement}
 use Rattle.row_stream.proofs.short_ways.few.feed_few.Tie as tie
 
--- the places, the bytes at their front, and what the search has found in them
-module _ (k : tie.After-seek-row) where
+-- the places, and the bytes at their front
+module _ (t : tie.After-text) where
   abbrev start : tie.Start
-  start = k .before .before .before .before .before .before .before .before
+  start = t .before .before .before .before .before .before
 
-  abbrev held : List ℕ
-  held = take (start .args .count) (start .args .held .now)
+  abbrev count : ℕ
+  count = start .args .count
+
+  abbrev places : List ℕ
+  places = start .args .held .now
 
   abbrev few : List ℕ
   few = start .args .few .now
 
+  abbrev numbers : List ℤ
+  numbers = start .args .numbers .now
+
   abbrev all : ℕ
-  all = start .args .count + length few
+  all = count + length few
 
   abbrev bytes : List ℕ
-  bytes = k .before .before .text .result .now
+  bytes = t .text .result .now
 
   abbrev laid : List ℕ
-  laid = k .before .before .before .before .before .lay .last .0
+  laid = t .before .before .before .lay .last .0
+
+  behind : count + length few ≤ 133
+  behind = start .pre .0 .behind
+
+  long : length places ≡ 133
+  long = start .pre .1 .places
+
+  room : 26 ≤ length numbers
+  room = start .pre .1 .row
+
+  there : count ≤ length places
+  there = omega (arith, behind, long)
+
+  laid-is : laid ≡ laidAt count few places
+  laid-is = t .before .before .before .lay .ensures long
+
+  bytes-are : bytes ≡ take count places ++ few
+  bytes-are = t .text .ensures .content ∙ at-front count few places long behind laid laid-is
+
+  bytes-length : length bytes ≡ all
+  bytes-length = ap length (t .text .ensures .content) ∙ front-long count few places long behind laid laid-is
+
+-- what the search has found in them
+module _ (k : tie.After-seek-row) where
+  abbrev t : tie.After-text
+  t = k .before .before
 
   abbrev place : Place
   place = k .seek-row .result
@@ -45,44 +78,46 @@ module _ (k : tie.After-seek-row) where
   abbrev after : List ℤ
   after = k .seek-row .last .1 .1 .1 .1 .1 .0
 
-  there : start .args .count ≤ length (start .args .held .now)
-  there = omega (arith, start .pre .2, start .pre .4)
+  abbrev family : ℕ
+  family = start t .args .family
 
-  laid-is : laid ≡ laidAt (start .args .count) few (start .args .held .now)
-  laid-is = k .before .before .before .before .before .lay .ensures (start .pre .4)
+  abbrev a-few : IsFew family (count t) (length (few t))
+  a-few = start t .pre .0
 
-  bytes-are : bytes ≡ held ++ few
-  bytes-are = k .before .before .text .ensures .content ∙ at-front (start .args .count) few (start .args .held .now) (start .pre .4) (start .pre .2) laid laid-is
+  abbrev from : ℕ
+  from = place .start + place .length
 
-  bytes-length : length bytes ≡ all
-  bytes-length = ap length (k .before .before .text .ensures .content) ∙ front-long (start .args .count) few (start .args .held .now) (start .pre .4) (start .pre .2) laid laid-is
-
-  found : FewAt (start .args .family) (start .args .count) (start .args .at) (start .args .skipped) (start .args .held .now) few bytes (start .args .numbers .now) (start .pre .0) (start .pre .1) there bytes-are (start .pre .3) after place
-  found = few-at (start .args .family) (start .args .count) (start .args .at) (start .args .skipped) (start .args .held .now) few bytes (start .args .numbers .now) (start .pre .0) (start .pre .1) there bytes-are (start .pre .3) place after (k .seek-row .ensures)
+  found : FewAt family (count t) (start t .args .at) (start t .args .skipped) (places t) (few t) (bytes t) (numbers t)
+      (a-few .a-family) (a-few .low) (there t) (bytes-are t) (room t) after place
+  found =
+      few-at family (count t) (start t .args .at) (start t .args .skipped) (places t) (few t) (bytes t) (numbers t)
+      (a-few .a-family) (a-few .low) (there t) (bytes-are t) (room t) place after (k .seek-row .ensures)
 
   -- what is left of the places is what is kept of the bytes
-  keeps : (l : List ℕ) → (length laid ≡ 133 → l ≡ filled (part (place .start + place .length) (place .to - (place .start + place .length)) laid))
-      → l ≡ filled (part (place .start + place .length) (place .to - (place .start + place .length)) bytes)
+  keeps : (l : List ℕ) → (length (laid t) ≡ 133 → l ≡ filled (part from (place .to - from) (laid t))) → l ≡ filled (part from (place .to - from) (bytes t))
   keeps l e =
-      let from = place .start + place .length in
-      e (still-133 (start .args .count) few (start .args .held .now) (start .pre .4) (start .pre .2) laid laid-is)
-      ∙ ap filled (sym (part-of-front laid all from (place .to - from) (omega (arith, found .order, found .within, bytes-length))))
-      ∙ ap (λ (b : List ℕ). filled (part from (place .to - from) b)) (sym (k .before .before .text .ensures .content))
+      let left = place .to - from in
+      e (still-133 (count t) (few t) (places t) (long t) (behind t) (laid t) (laid-is t))
+      ∙ ap filled (sym (part-of-front (laid t) (all t) from left (omega (arith, found .order, found .within, bytes-length t))))
+      ∙ ap (λ (b : List ℕ). filled (part from left b)) (sym (t .text .ensures .content))
+
+  fits : place .to - from ≤ 133
+  fits = omega (arith, found .short, longest-fits family)
 
 lay-requires : tie.Need-lay-requires
 lay-requires c κs = search needs
 
 add-all : tie.Need-add-all
-add-all c = search needs
+add-all c = omega (arith, c .before .before .before .pre .0 .behind)
 
 text-requires : tie.Need-text-requires
 text-requires c κs = search needs
 
 seek-row-requires : tie.Need-seek-row-requires
-seek-row-requires c κs = search needs
+seek-row-requires c κs = (omega (arith, bytes-length (c .before)), room (c .before))
 
 add-from : tie.Need-add-from
-add-from c = let k = c .before .before in omega (arith, found k .order, found k .within, bytes-length k, start k .pre .2)
+add-from c = let k = c .before .before in omega (arith, found k .order, found k .within, bytes-length (t k), behind (t k))
 
 sub-left : tie.Need-sub-left
 sub-left c = found (c .before .before .before) .order
@@ -91,7 +126,7 @@ keep-part-requires : tie.Need-keep-part-requires
 keep-part-requires c κs = search needs
 
 cast-t23 : tie.Need-cast-t23
-cast-t23 c = let k = c .before .before .before .before .before .before .before in omega (arith, found k .short, longest-fits (start k .args .family))
+cast-t23 c = omega (arith, fits (c .before .before .before .before .before .before .before))
 
 advanced-requires : tie.Need-advanced-requires
 advanced-requires c κs = search needs
@@ -104,11 +139,13 @@ same-length c = search needs
 
 returns : tie.Need-returns
 returns c = λ long.
-    let k = c .before .before .before .before .before .before .before .before .before in
-    rw (c .before .advanced .ensures, c .advanced2 .ensures) (found k .waits (c .before .before .if1 .taken) _ (keeps k _ (c .before .before .before .before .keep-part .ensures)))
+    let none = c .before .before in
+    let kept = none .before .before in
+    let k = kept .before .before .before .before .before in
+    rw (c .before .advanced .ensures, c .advanced2 .ensures) (found k .waits (none .if1 .taken) _ (keeps k _ (kept .keep-part .ensures)))
 
 cast-t26 : tie.Need-cast-t26
-cast-t26 c = let k = c .before .before .before .before .before .before .before in omega (arith, found k .short, longest-fits (start k .args .family))
+cast-t26 c = omega (arith, fits (c .before .before .before .before .before .before .before))
 
 advanced-requires-3 : tie.Need-advanced-requires-3
 advanced-requires-3 c κs = search needs
@@ -118,8 +155,10 @@ same-length-2 c = search needs
 
 returns-2 : tie.Need-returns-2
 returns-2 c = λ long.
-    let k = c .before .before .before .before .before .before .before .before in
-    rw (c .advanced3 .ensures) (found k .hands (c .before .if1 .left) _ (keeps k _ (c .before .before .before .keep-part .ensures)))
+    let some = c .before in
+    let kept = some .before .before in
+    let k = kept .before .before .before .before .before in
+    rw (c .advanced3 .ensures) (found k .hands (some .if1 .left) _ (keeps k _ (kept .keep-part .ensures)))
 
 pub feed-few-spec : {M : Type 1} → statement M
 feed-few-spec =

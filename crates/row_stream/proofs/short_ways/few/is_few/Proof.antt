@@ -31,11 +31,12 @@ sub-result c = room c
 
 returns-3 : tie.Need-returns-3
 returns-3 c = λ told.
-    let a = c .before .before .before .before .args in (
-      sym (c .before .before .before .is-family .ensures) ∙ not-false _ (c .before .before .if1 .left),
-      omega (arith, c .if2 .left, c .before .longest-frame .ensures),
-      omega (arith, room c, leb-true (a .others) (133 - a .count) told),
-    )
+    let a = c .before .before .before .before .args in
+    record {
+      a-family = sym (c .before .before .before .is-family .ensures) ∙ not-false _ (c .before .before .if1 .left);
+      low = omega (arith, c .if2 .left, c .before .longest-frame .ensures);
+      behind = omega (arith, room c, leb-true (a .others) (133 - a .count) told);
+    }
 
 pub is-few-spec : {M : Type 1} → statement M
 is-few-spec =

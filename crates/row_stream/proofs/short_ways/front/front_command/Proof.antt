@@ -47,12 +47,12 @@ returns-3 c =
     let a = start .args in
     let offered = a .offered .now in
     let laid = c .before .before .before .lay-head .ensures in
-    let zero : c .before .before .before .lay-head .result ≡ 0 = laid .answers ∙ rw (le-leb 6 (length (a .numbers .now)) (omega (arith, start .pre .0))) in
+    let zero : c .before .before .before .lay-head .result ≡ 0 = laid .answers ∙ rw (le-leb 6 (length (a .numbers .now)) (omega (arith, start .pre .row))) in
     let is-command = sym (c .before .before .before .before .before .before .before .is-command .ensures) ∙ not-false _ (c .before .before .before .before .before .before .if2 .left) in
     let code : getD offered 4 0 ≡ getD (take 6 offered) 4 0 = sym (getD-take 6 offered 4 0 (omega arith)) in
-    frame-there 3 (a .at) (a .skipped) (a .held .now) offered 6 _ family-3 (c .before .before .before .before .before .before .before .before .before .if1 .left) (a-command (take 6 offered) is-command) (λ six. omega (arith, six)) (a .numbers .now) _ _ (start .pre .0) (omega arith) (omega arith)
+    frame-there 3 (a .at) (a .skipped) (a .held .now) offered 6 _ family-3 (c .before .before .before .before .before .before .before .before .before .if1 .left) (a-command (take 6 offered) is-command) (λ six. omega (arith, six)) (a .numbers .now) _ _ (start .pre .row) (omega arith) (omega arith)
     (laid .content ∙ rw (eq-eqb _ 0 zero) (ap (λ (k : ℕ). front (row 6 (a .at) (a .skipped) 6 (Command k)) (a .numbers .now)) code))
-    (c .clear .ensures (start .pre .1))
+    (c .clear .ensures (start .pre .places))
 
 pub front-command-spec : {M : Type 1} → statement M
 front-command-spec =

@@ -9,7 +9,7 @@ use lib.ListN.{length, take, getD}
 use lib.Seq.{length-take-le}
 use Rattle.stream_laws.proofs.PacketStarts.{needs-longest}
 use Rattle.rows.specs.Rows.{row, front}
-use Rattle.row_stream.specs.FedRows.{FrontRow}
+use Rattle.row_stream.specs.Short.{FrontRow}
 use Rattle.rows.proofs.Outcome.{was-read, was-none}
 use Rattle.row_stream.proofs.Front.{nothing-there, frame-there, family-1}
 use borrow.Author.Needs.{needs}
@@ -48,7 +48,7 @@ returns-3 : tie.Need-returns-3
 returns-3 c =
     let start = c .before .before .before .before .before .before .before .before .before .before in
     let a = start .args in
-    let none = was-none _ _ _ _ _ _ _ _ (c .before .before .read-row .ensures) (c .if3 .taken) (start .pre .0) in
+    let none = was-none _ _ _ _ _ _ _ _ (c .before .before .read-row .ensures) (c .if3 .taken) (start .pre .row) in
     subst (λ (l : List ℤ). FrontRow 1 (a .at) (a .skipped) (a .offered .now) (a .held .now) (a .numbers .now) 0 (a .held .now) l) (sym (none .1)) (nothing-there _ _ _ _ _ _)
 
 clear-requires : tie.Need-clear-requires
@@ -64,9 +64,9 @@ returns-4 c =
     let whole = c .before .before .before .before .before .before .before in
     let n = whole .before .bytes-needed .result in
     let found = was-read _ _ _ _ _ _ _ _ (c .before .before .before .before .read-row .ensures) (c .before .before .if3 .left) in
-    frame-there 1 (a .at) (a .skipped) (a .held .now) (a .offered .now) n (found .frame) family-1 (there whole) (found .is-good) (whole .if2 .left) (a .numbers .now) _ _ (start .pre .0) (omega arith) (omega arith)
+    frame-there 1 (a .at) (a .skipped) (a .held .now) (a .offered .now) n (found .frame) family-1 (there whole) (found .is-good) (whole .if2 .left) (a .numbers .now) _ _ (start .pre .row) (omega arith) (omega arith)
     (found .stands ∙ ap (λ (k : ℕ). front (row n (a .at) (a .skipped) k (found .frame)) (a .numbers .now)) (long-enough whole))
-    (c .clear .ensures (start .pre .1))
+    (c .clear .ensures (start .pre .places))
 
 pub front-reply-spec : {M : Type 1} → statement M
 front-reply-spec =

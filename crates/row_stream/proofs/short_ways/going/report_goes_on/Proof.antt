@@ -21,10 +21,10 @@ begins-report-requires : tie.Need-begins-report-requires
 begins-report-requires c κs = search needs
 
 returns-3 : tie.Need-returns-3
-returns-3 c = λ told. (
-  omega (arith, c .before .before .before .before .if1 .left, c .before .before .before .if2 .left),
-  sym (c .begins-report .ensures ∙ ap beginsReport (c .before .text .ensures .content)) ∙ told,
-)
+returns-3 c = λ told. record {
+  short = omega (arith, c .before .before .before .before .if1 .left, c .before .before .before .if2 .left);
+  begun = sym (c .begins-report .ensures ∙ ap beginsReport (c .before .text .ensures .content)) ∙ told;
+}
 
 pub report-goes-on-spec : {M : Type 1} → statement M
 report-goes-on-spec = tie.close (tie.spec returns returns-2 text-requires begins-report-requires returns-3)

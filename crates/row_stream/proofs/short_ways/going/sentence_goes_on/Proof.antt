@@ -38,13 +38,17 @@ is-payload-requires-2 : tie.Need-is-payload-requires-2
 is-payload-requires-2 c κs = search needs
 
 returns-6 : tie.Need-returns-6
-returns-6 c = λ told. (
-  c .before .before .before .before .before .before .before .before .before .if1 .left,
-  omega (arith, c .before .before .before .before .before .before .before .before .if2 .left, c .before .before .before .before .before .before .before .if3 .left),
-  c .before .before .before .before .before .if4 .left,
-  sym (c .before .before .before .before .is-payload .ensures) ∙ not-false _ (c .before .before .before .if5 .left),
-  sym (c .is-payload2 .ensures ∙ ap (every isPayloadByte) (c .before .text .ensures .content)) ∙ told,
-)
+returns-6 c = λ told.
+    let payload = c .before .before .before in
+    let dollar = payload .before .before in
+    let short = dollar .before .before in
+    record {
+      some = short .before .before .if1 .left;
+      short = omega (arith, short .before .if2 .left, short .if3 .left);
+      dollar = dollar .if4 .left;
+      payload-held = sym (c .is-payload2 .ensures ∙ ap (every isPayloadByte) (c .before .text .ensures .content)) ∙ told;
+      payload-offered = sym (payload .before .is-payload .ensures) ∙ not-false _ (payload .if5 .left);
+    }
 
 pub sentence-goes-on-spec : {M : Type 1} → statement M
 sentence-goes-on-spec =

@@ -1,6 +1,6 @@
 -- `short_ways::row_search::lay_waiting` meets its contract: there is room for the six numbers.
 -- Assumes nothing.
-use mathlib.Core.Path.{_≡_, _∙_}
+use mathlib.Core.Path.{_≡_, refl, _∙_}
 use native.Mathlib.Omega.{arith}
 use borrow.Author.Tests.{eq-eqb, le-leb}
 use lib.ListN.{length}
@@ -23,7 +23,7 @@ returns c =
     let a = c .before .before .before .args in
     let zero : c .before .lay-head .result ≡ 0 = laid .answers ∙ rw (le-leb 6 (length (a .numbers .now)) (omega (arith, c .before .before .before .pre .1))) in
     record {
-      found = λ i. record { laid = eq-eqb _ 0 zero i; start = a .from; length = 0; to = a .all };
+      found = refl;
       laid = laid .content ∙ rw (eq-eqb _ 0 zero);
     }
 

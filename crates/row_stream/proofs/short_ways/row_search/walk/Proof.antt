@@ -3,7 +3,6 @@
 -- Assumes nothing.
 use Prim.Native.Nat.{ℕ, _+_, _-_, _≤_, _<_}
 use mathlib.Core.Path.{_≡_, refl, sym, ap, _∙_}
-use mathlib.Core.Bool.{true}
 use mathlib.Core.List.{List}
 use native.Mathlib.Omega.{arith}
 use borrow.Author.Needs.{needs}
@@ -128,7 +127,7 @@ returns c =
     let start = r .before .before .before .advanced .ensures in
     let skipped = r .before .before .advanced2 .ensures in
     record {
-      found = (λ i. record { laid = true; start = stop r .at; length = stop r .size; to = to i }) ∙ ap (placeOf (length (s r)) (a .count)) is;
+      found = (λ i. record { start = stop r .at; length = stop r .size; to = to i }) ∙ ap (placeOf (length (s r)) (a .count)) is;
       laid = found .stands
           ∙ (λ i. front (row (to i - a .count) (start i) (skipped i) (long-enough r i) f) (numbers i))
           ∙ ap (λ (x : Sought). front (rowOf (length (s r)) (a .count) (a .at) (a .skipped) x) (a .numbers .now)) is;
