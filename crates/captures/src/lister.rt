@@ -1,5 +1,6 @@
 // The lister: the starts of all frames in a capture, and the earliest frame from a place on.
 
+use crate::spans::find;
 use crate::steps::command_size;
 use crate::steps::may_be_sentence;
 use crate::steps::next_command;
@@ -12,8 +13,6 @@ use rules::PACKET_LENGTH;
 use rules::REPLY_MARK;
 use rules::SENTENCES;
 use rules::TOO_LONG;
-use search::First;
-use search::first_good;
 use starts::is_family;
 use starts::payload_bytes;
 use stream_rules::LONGEST_CAPTURE;
@@ -158,17 +157,6 @@ pub fn list_frames(family: u8, capture: &[u8], starts: &mut [u32]) -> Listed
 pub fn next_frame(family: u8, capture: &[u8], place: usize) -> &[u8]
     ensures { λ r. ⌜ NextFrame family (capture .entry) place r ⌝ }
 {
-    if !is_family(family) {
-        return &capture[..0];
-    }
-    if LONGEST_CAPTURE < capture.len() {
-        return &capture[..0];
-    }
-    if capture.len() < place {
-        return &capture[..0];
-    }
-    let First::At(start, size, _) = first_good(family, capture, place) else {
-        return &capture[..0];
-    };
-    text(capture, start, size)
+    let span = find(family, capture, place, false);
+    text(capture, span.start, span.size)
 }

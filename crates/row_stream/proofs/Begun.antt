@@ -35,16 +35,26 @@ module _ (count : ℕ) (held others : List ℕ) (long : length held ≡ 133) whe
 
   pub report-goes-on : ReportGoesOn count held (length others) → GoesOn 1 count held others
   report-goes-on g =
-      let few : length bytes < 75 = omega (arith, size (omega (arith, g .0)), g .0) in
-      (family-1, omega (arith, g .0), omega (arith, g .0), sym (waiting 1 bytes _ (begun-waits bytes (still-begun (take count held) others (begun (take count held) (g .1))) few) refl))
+      let few : length bytes < 75 = omega (arith, size (omega (arith, g .short)), g .short) in
+      let starts = still-begun (take count held) others (begun (take count held) (g .begun)) in
+      record {
+        few = record { a-family = family-1; low = omega (arith, g .short); behind = omega (arith, g .short) };
+        undecided = sym (waiting 1 bytes _ (begun-waits bytes starts few) refl);
+      }
 
   pub sentence-goes-on : SentenceGoesOn count held others → GoesOn 2 count held others
   sentence-goes-on g =
-      let low : count ≤ 133 = omega (arith, g .1) in
-      let behind : drop 1 bytes ≡ part 1 (count - 1) held ++ others =
-      drop-append-le 1 (take count held) others (omega (arith, g .0, length-take-le count held (omega arith))) ∙ ap (λ (l : List ℕ). l ++ others) (drop-take 1 count held) in
-      let payload : every isPayloadByte (drop 1 bytes) ≡ true = ap (every isPayloadByte) behind ∙ every-append isPayloadByte (part 1 (count - 1) held) others (g .4) (g .3) in
+      let low : count ≤ 133 = omega (arith, g .short) in
+      let held-behind = part 1 (count - 1) held in
+      let behind : drop 1 bytes ≡ held-behind ++ others =
+      drop-append-le 1 (take count held) others (omega (arith, g .some, length-take-le count held (omega arith)))
+      ∙ ap (λ (l : List ℕ). l ++ others) (drop-take 1 count held) in
+      let payload : every isPayloadByte (drop 1 bytes) ≡ true =
+      ap (every isPayloadByte) behind ∙ every-append isPayloadByte held-behind others (g .payload-held) (g .payload-offered) in
       let all : run bytes ≡ count + length others - 1 = run-all (drop 1 bytes) payload ∙ length-drop 1 bytes ∙ ap (λ (n : ℕ). n - 1) (size low) in
       let undecided : head 2 bytes ≡ wait =
-      payload-open bytes (first-stands (g .0) low ∙ g .2) (count + length others - 1) all (omega (arith, g .1)) (omega (arith, size low)) in
-      (family-2, omega (arith, g .1), omega (arith, g .1), sym (waiting 2 bytes _ (stops-waiting 2 bytes 0 0 0 0 (begins 2 bytes 0 0) undecided) refl))
+      payload-open bytes (first-stands (g .some) low ∙ g .dollar) (count + length others - 1) all (omega (arith, g .short)) (omega (arith, size low)) in
+      record {
+        few = record { a-family = family-2; low = omega (arith, g .short); behind = omega (arith, g .short) };
+        undecided = sym (waiting 2 bytes _ (stops-waiting 2 bytes 0 0 0 0 (begins 2 bytes 0 0) undecided) refl);
+      }

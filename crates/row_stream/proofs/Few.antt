@@ -3,12 +3,10 @@
 -- Assumes nothing.
 use Prim.Native.Nat.{ℕ, max, _+_, _-_, _^_, _≤_, _<_}
 use mathlib.Core.Path.{_≡_, refl, sym, ap, subst, _∙_}
-use mathlib.Core.Bool.{true, _&&_}
+use mathlib.Core.Bool.{true}
 use mathlib.Core.List.{List, _++_}
 use native.Mathlib.Nat.{zero-add, add-zero}
 use native.Mathlib.Omega.{arith}
-use borrow.Author.Tests.{le-leb}
-use lib.Dec.{leb}
 use lib.IntN.{ℤ}
 use lib.ListN.{length, take, length-append}
 use lib.Seq.{length-take-le, take-all}
@@ -22,11 +20,11 @@ use Rattle.stream_laws.proofs.Heads.{good-head}
 use Rattle.stream_laws.proofs.Looks.{look-ready}
 use Rattle.stream_laws.proofs.States.{open-call}
 use Rattle.search.specs.Sought.{soughtIn}
-use Rattle.row_stream.specs.RowSought.{placeOf, rowOf, SeeksRow}
+use Rattle.row_stream.specs.RowSought.{placeOf, rowOf, LaysSought}
 use Rattle.search.specs.declared.Hit.{Hit}
 use Rattle.search.specs.declared.Sought.{Sought}
 use Rattle.search.specs.declared.Sought.the-variants.{Ready, Waiting}
-use Rattle.row_stream.specs.declared.row_search.Place.{Place}
+use Rattle.row_stream.specs.declared.short_ways.row_search.Place.{Place}
 use Rattle.rows.specs.Rows.{rowWithout, front}
 use Rattle.stream.specs.Places.{readerAt, fedAt}
 use Rattle.stream.specs.Turns.{turned, callOn, movedStep, Cuts}
@@ -118,10 +116,8 @@ module _ (family count at skipped : ℕ) (places few bytes : List ℕ) (numbers 
             stands;
       }
 
-  pub few-at : (p : Place) (after : List ℤ) → SeeksRow family bytes count at skipped numbers p after → FewAt after p
-  few-at p after s =
-      let test : (leb 26 (length numbers) && leb count (length bytes)) ≡ true = rw (le-leb 26 (length numbers) room, le-leb count (length bytes) there) in
-      subst (FewAt after) (sym (rw test at (s .found))) (by-sought (soughtIn family bytes) refl (rw test at (s .laid)))
+  pub few-at : (p : Place) (after : List ℤ) → LaysSought (length bytes) count at skipped (soughtIn family bytes) numbers p after → FewAt after p
+  few-at p after s = subst (FewAt after) (sym (s .found)) (by-sought (soughtIn family bytes) refl (s .laid))
     where
       by-sought : (x : Sought) → soughtIn family bytes ≡ x → after ≡ front (rowOf (length bytes) count at skipped (soughtIn family bytes)) numbers
           → FewAt after (placeOf (length bytes) count (soughtIn family bytes))

@@ -25,7 +25,8 @@ use Rattle.stream_laws.proofs.Starts.{look-at-good}
 use Rattle.stream_laws.proofs.Jump.{jump}
 use Rattle.rows.specs.Rows.{row, front}
 use Rattle.stream.specs.Places.{readerAt}
-use Rattle.row_stream.specs.FedRows.{FeedsRow, FrontRow}
+use Rattle.row_stream.specs.FedRows.{FeedsRow}
+use Rattle.row_stream.specs.Short.{FrontRow}
 use Rattle.row_stream.proofs.Laid.{with-frame}
 
 module _ (family at skipped : ℕ) (held offered : List ℕ) (n : ℕ) (f : Frame) (a-family : isFamily family ≡ true) (there : n ≤ length offered) (read : readOne family (take n offered) ≡ Good f) where

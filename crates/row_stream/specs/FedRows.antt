@@ -1,12 +1,12 @@
 -- A call that offers bytes, and the row of what it answers.
-use Prim.Native.Nat.{ℕ, _+_}
+use Prim.Native.Nat.{ℕ}
 use mathlib.Core.Path.{_≡_}
 use mathlib.Core.Bool.{cond}
 use mathlib.Core.List.{List}
 use lib.Dec.{eqb}
 use lib.IntN.{ℤ}
 use lib.ListN.{length}
-use Rattle.stream_rules.specs.Streams.{placeCount, wrap, fed, saidToFeed}
+use Rattle.stream_rules.specs.Streams.{placeCount, fed, saidToFeed}
 use Rattle.stream_rules.specs.declared.Reader.{Reader}
 use Rattle.stream.specs.Places.{readerAt}
 use Rattle.rows.specs.Rows.{rowFed, Lays}
@@ -24,9 +24,3 @@ abbrev pub FeedsRowAt : ℕ → ℕ → ℕ → List ℕ → ℕ → ℕ → Lis
 FeedsRowAt family closed count held at skipped offered numbers c places left =
     length held ≡ placeCount
     → FeedsRow (readerAt family closed count held at skipped) offered numbers (c .number) (readerAt family closed (c .count) places (c .at) (c .skipped)) left
-
--- Of the ways that only some calls take: a frame of n bytes at the front of what is offered to a reader that holds nothing has been
--- handed out, and nothing is kept. Where n is 0, nothing is changed.
-pub record FrontRow (family at skipped : ℕ) (offered held : List ℕ) (numbers : List ℤ) (n : ℕ) (places : List ℕ) (left : List ℤ) : Type 0 where
-  pub none : n ≡ 0 → (places ≡ held) × (left ≡ numbers)
-  pub handed : (n ≡ 0 → ⊥) → FeedsRow (readerAt family 0 0 held at skipped) offered numbers 0 (readerAt family 0 0 places (wrap (at + n)) 0) left

@@ -80,14 +80,6 @@ movedStep at skipped count (Waiting t s) = record { count = count; at = wrap (at
 abbrev pub movedBy : ℕ → ℕ → Next → Moved
 movedBy at skipped n = movedStep at skipped (n .count) (n .step)
 
--- the counts, the answer and the places of a turn
-abbrev pub Moves : ℕ → ℕ → Turn → List ℕ → Moved → Type 0
-Moves at skipped turn left m = (m ≡ movedStep at skipped (turn .count) (turn .step)) × (left ≡ turn .held)
-
--- those of the call on these bytes
-abbrev pub Takes : ℕ → List ℕ → ℕ → ℕ → ℕ → List ℕ → List ℕ → Moved → Type 0
-Takes family held count at skipped offered left m = Moves at skipped (turned (call (head family) (take count held) offered)) left m
-
 -- done, with these bytes dropped
 abbrev pub doneBy : ℕ → ℕ → ℕ → Moved
 doneBy at skipped dropped = record { count = 0; at = wrap (at + dropped); skipped = wrap (skipped + dropped); answer = Done 0 }

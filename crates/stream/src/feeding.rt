@@ -7,29 +7,25 @@ use crate::pieces::Step;
 use crate::pieces::advance;
 use crate::stamps::advanced;
 use held_bytes::keep_part;
-use held_bytes::lay;
 use held_bytes::size;
 use rules::HOLDS_TOO_MUCH;
 use rules::IS_CLOSED;
 use rules::NO_FAMILY;
 use search::First;
-use search::Sought;
 use search::first_good;
-use search::seek;
 use starts::is_family;
 use starts::longest_frame;
 use stream_rules::Answer;
 use stream_rules::PLACES;
 use stream_rules::Ready;
-use texts::further;
 use texts::text;
 ghost use mathlib.Core.Path.{_≡_};
-ghost use Prim.Native.Nat.{_+_, _≤_, _<_};
+ghost use Prim.Native.Nat.{_≤_, _<_};
 ghost use lib.ListN.{length};
 ghost use Rattle.stream_rules.specs.Heads.{longest};
 ghost use Rattle.stream_rules.specs.declared.Answer.the-variants.{Refused};
 ghost use Rattle.stream.specs.Places.{FeedsPlaces};
-ghost use Rattle.stream.specs.Turns.{StepFits, handedOut, movedBy, Takes, doneBy, Drains};
+ghost use Rattle.stream.specs.Turns.{StepFits, handedOut, movedBy, doneBy, Drains};
 ghost use Rattle.stream_rules.specs.Streams.{placeCount};
 
 // What a call leaves of a reader beside its held places, and what it answered.
@@ -77,47 +73,6 @@ fn answered(at: u32, skipped: u32, next: Next) -> Moved
             skipped: advanced(skipped, passed),
             answer: Answer::More(taken),
         },
-    }
-}
-
-// A call on few bytes, for which the places have room behind the held ones. They stay as they stand there
-// while nothing is decided. (Each way out makes its own answer: one that is made for both is copied.)
-fn take_few(
-    family: u8,
-    held: &mut [u8; PLACES],
-    count: usize,
-    at: u32,
-    skipped: u32,
-    few: &[u8],
-) -> Moved
-    requires { ⌜ (count < longest family) × (count + length (now few) ≤ placeCount) × (length (now held) ≡ placeCount) ⌝ }
-    ensures { λ m. ⌜ Takes family (now (held .entry)) count at skipped (now (few .entry)) (now (held .exit)) m ⌝ }
-{
-    lay(held, count, few);
-    let all = count + few.len();
-    match seek(family, text(held, 0, all)) {
-        Sought::Waiting(from) => {
-            let left = all - from;
-            keep_part(held, from, left);
-            let step = Step::Waiting(few.len(), from);
-            answered(at, skipped, Next { step, count: left })
-        }
-        Sought::Ready(hit) => {
-            let frame = hit.frame;
-            let behind = hit.start + hit.length;
-            let to = further(hit.reach, count);
-            let left = to - behind;
-            let taken = to - count;
-            keep_part(held, behind, left);
-            let got = Got {
-                taken,
-                skipped: hit.start,
-                length: hit.length,
-                frame,
-            };
-            let step = Step::Ready(got);
-            answered(at, skipped, Next { step, count: left })
-        }
     }
 }
 
@@ -204,9 +159,6 @@ pub fn feed_places(
         return refused(count, at, skipped, HOLDS_TOO_MUCH);
     }
     if closed == 0 {
-        if offered.len() <= PLACES - used {
-            return take_few(family, held, used, at, skipped, offered);
-        }
         return answered(at, skipped, advance(family, held, used, offered));
     }
     if offered.len() != 0 {

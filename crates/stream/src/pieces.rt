@@ -1,6 +1,5 @@
-// A call on more bytes than the held places have room for, which alters them where they stand. The bytes offered
-// are searched where they stand too, as a whole; only what is held is joined first, in a buffer, with the
-// next of them. Also what such calls and those on few bytes share.
+// A call on an open reader, which alters the held places where they stand. Where nothing is held, the bytes offered
+// are searched where they stand; else what is held is joined first, in a buffer, with the next of them.
 use pens::put_bytes;
 use rules::Frame;
 use search::Sought;
@@ -109,7 +108,7 @@ fn take_piece(family: u8, held: &mut [u8; PLACES], count: usize, piece: &[u8]) -
     turn_of(family, bytes, count, 0, 0, held)
 }
 
-// Such a call. Where a whole piece with the held bytes leaves no frame, what is kept
+// Such a call, on any number of bytes. Where a whole piece with the held bytes leaves no frame, what is kept
 // is no longer than the piece, so it is the piece's last bytes, and the call goes on from there.
 pub(crate) fn advance(family: u8, held: &mut [u8; PLACES], count: usize, offered: &[u8]) -> Next
     requires { ⌜ (count < longest family) × (count ≤ placeCount) ⌝ }

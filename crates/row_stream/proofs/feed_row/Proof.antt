@@ -1,53 +1,44 @@
--- `fed_rows::feed_row` meets its contract: each way of its own is the call on that reader, and where none is taken, nothing is changed
--- before the general way.
+-- `row_stream::feed_row` meets its contract: a short way that was taken is the call, and where none was, nothing is changed before
+-- the general way.
 -- Assumes nothing.
-use Prim.Native.Nat.{ℕ, _≤_}
-use mathlib.Core.Path.{_≡_, refl, sym, ap, _∙_}
-use mathlib.Core.List.{List}
-use mathlib.Core.Logic.{⊎-elim}
-use native.Mathlib.Omega.{arith}
-use borrow.Author.Tests.{not-false}
+use Prim.Native.Nat.{ℕ}
+use mathlib.Core.Path.{_≡_, subst}
+use mathlib.Core.List.{List, [], _∷_}
+use denote.Enum.Declared.{tagOf}
+use types.Run.{OneOf, miss}
 use lib.IntN.{ℤ}
-use lib.ListN.{length}
 use Rattle.row_stream.specs.FedRows.{FeedsRowAt}
+use Rattle.row_stream.specs.Short.{TriesShort}
 use Rattle.row_stream.specs.declared.Counts.{Counts}
+use Rattle.row_stream.specs.declared.short_ways.Short as ShortType
+use Rattle.row_stream.specs.declared.short_ways.Short.the-variants.{Taken, NotTaken}
+use Rattle.row_stream.proofs.short_ways.Short.{the-type}
 use borrow.Author.Needs.{needs}
 use Rattle.row_stream.proofs.feed_row.Statement.{statement}
 use Rattle.row_stream.proofs.feed_row.Tie as tie
 
--- where the first test has been passed: the reader is open, there is room for every row, and the places are 133
-module _ (e : tie.Else1) where
-  abbrev start : tie.Start
-  start = e .before .before .before .before .before .before
+module _ (family closed count at skipped : ℕ) (held places offered : List ℕ) (numbers row : List ℤ) (s : ShortType.Short) (tried : TriesShort family closed count held at skipped offered numbers s places row) where
+  taken : (c : Counts) → s ≡ Taken c → FeedsRowAt family closed count held at skipped offered numbers c places row
+  taken c is = subst (λ (x : ShortType.Short). TriesShort family closed count held at skipped offered numbers x places row) is tried
 
-  told : (start .args .closed ≡ 0) × (e .before .before .size .result ≡ 133) × (26 ≤ length (start .args .numbers .now))
-  told = e .before .is-plain .ensures (not-false _ (e .if1 .left))
+  unchanged : OneOf (1 ∷ []) (tagOf the-type s) → (places ≡ held) × (row ≡ numbers)
+  unchanged none = by s none tried
+    where
+      by : (x : ShortType.Short) → OneOf (1 ∷ []) (tagOf the-type x) → TriesShort family closed count held at skipped offered numbers x places row
+          → (places ≡ held) × (row ≡ numbers)
+      by (Taken c) other is = absurd (miss (1 ∷ []) 0 tt other)
+      by NotTaken other is = is
 
-  places : length (start .args .held .now) ≡ 133
-  places = sym (e .before .before .size .ensures) ∙ told .1
+  -- so what the general way then does is what the call does
+  general : OneOf (1 ∷ []) (tagOf the-type s) → (c : Counts) (after : List ℕ) (left : List ℤ)
+      → FeedsRowAt family closed count places at skipped offered row c after left → FeedsRowAt family closed count held at skipped offered numbers c after left
+  general none c after left feeds = rw (unchanged none .0, unchanged none .1) at feeds
 
--- where no frame has been handed out from the front, nothing is changed
-unchanged : (j : tie.Joined2) → (j .if2 .held ≡ start (j .before) .args .held .now) × (j .if2 .numbers ≡ start (j .before) .args .numbers .now)
-unchanged j =
-    ⊎-elim
-    (λ w. let none = w .3 .ensures .none (w .5 .left) in (w .6 ∙ none .0, w .7 ∙ none .1))
-    (λ w. (w .4, w .5))
-    (j .if2 .came)
+try-short-requires : tie.Need-try-short-requires
+try-short-requires c κs = search needs
 
--- so what a call then does is what the call does
-module _ (family closed shut count at skipped : ℕ) (held places offered after : List ℕ) (numbers row left : List ℤ) (c : Counts) where
-  as-before : shut ≡ closed → (places ≡ held) × (row ≡ numbers) → FeedsRowAt family shut count places at skipped offered row c after left
-      → FeedsRowAt family closed count held at skipped offered numbers c after left
-  as-before is same feeds = rw (is, same .0, same .1) at feeds
-
-size-requires : tie.Need-size-requires
-size-requires c κs = search needs
-
-is-plain-requires : tie.Need-is-plain-requires
-is-plain-requires c κs = search needs
-
-feed-any-requires : tie.Need-feed-any-requires
-feed-any-requires c κs = search needs
+enum-known-short : tie.Need-enum-known-short
+enum-known-short c = search needs
 
 left-so-requires : tie.Need-left-so-requires
 left-so-requires c κs = search needs
@@ -56,13 +47,15 @@ same-length : tie.Need-same-length
 same-length c = search needs
 
 returns : tie.Need-returns
-returns c = rw (c .left-so .ensures) (c .before .before .feed-any .ensures)
+returns c =
+    let known = c .before .before in
+    rw (c .left-so .ensures) (taken _ _ _ _ _ _ _ _ _ _ _ (known .before .before .before .try-short .ensures) _ (known .short .given .1))
 
-front-frame-requires : tie.Need-front-frame-requires
-front-frame-requires c κs = let e = c .before .before .before in (told e .2, places e)
+enum-told : tie.Need-enum-told
+enum-told c = search needs
 
-advanced-requires : tie.Need-advanced-requires
-advanced-requires c κs = search needs
+feed-any-requires : tie.Need-feed-any-requires
+feed-any-requires c κs = search needs
 
 left-so-requires-2 : tie.Need-left-so-requires-2
 left-so-requires-2 c κs = search needs
@@ -71,83 +64,23 @@ same-length-2 : tie.Need-same-length-2
 same-length-2 c = search needs
 
 returns-2 : tie.Need-returns-2
-returns-2 c = λ long.
-    let then = c .before .before .before .before .before .before .before in
-    rw (c .left-so2 .ensures, told (then .before) .0, then .if2 .taken, c .before .advanced .ensures)
-    (c .before .before .before .before .front-frame .ensures .handed (c .before .before .if3 .taken))
-
-goes-on-requires : tie.Need-goes-on-requires
-goes-on-requires c κs = search needs
-
-feed-on-requires : tie.Need-feed-on-requires
-feed-on-requires c κs =
-    let then = c .before .before in
-    let e = c .before .before .before .before .before .before in
-    (then .before .goes-on .ensures (then .if4 .taken) (places e), told e .2, places e)
-
-same-length-3 : tie.Need-same-length-3
-same-length-3 c = search needs
-
-returns-3 : tie.Need-returns-3
-returns-3 c = let e = c .before .before .before .before .before .before .before .before in rw (told e .0) (c .before .feed-on .ensures)
-
-is-few-requires : tie.Need-is-few-requires
-is-few-requires c κs = search needs
-
-feed-few-requires : tie.Need-feed-few-requires
-feed-few-requires c κs =
-    let then = c .before .before in
-    let j = then .before .before in
-    let few = then .before .is-few .ensures (then .if5 .taken) in
-    let same = unchanged j in
-    (few .0, few .1, few .2, omega (arith, told (j .before) .2, ap length (same .1)), ap length (same .0) ∙ places (j .before))
-
-same-length-4 : tie.Need-same-length-4
-same-length-4 c = c .numbers4 .given ∙ ap length (unchanged (c .before .before .before .before .before .before) .1)
-
-returns-4 : tie.Need-returns-4
-returns-4 c =
-    let j = c .before .before .before .before .before .before in
-    as-before _ _ 0 _ _ _ _ _ _ _ _ _ _ _ (sym (told (j .before) .0)) (unchanged j) (c .before .feed-few .ensures)
-
-feed-any-requires-2 : tie.Need-feed-any-requires-2
-feed-any-requires-2 c κs = search needs
-
-left-so-requires-3 : tie.Need-left-so-requires-3
-left-so-requires-3 c κs = search needs
-
-same-length-5 : tie.Need-same-length-5
-same-length-5 c = c .before .numbers5 .given ∙ ap length (unchanged (c .before .before .before .before .before .before .before) .1)
-
-returns-5 : tie.Need-returns-5
-returns-5 c =
-    let j = c .before .before .before .before .before .before .before in
-    rw (c .left-so3 .ensures) (as-before _ _ _ _ _ _ _ _ _ _ _ _ _ _ refl (unchanged j) (c .before .before .feed-any2 .ensures))
+returns-2 c =
+    let any = c .before .before in
+    let none = any .before .before .before .before in
+    let tried = none .before .before .try-short in
+    rw (c .left-so2 .ensures) (general _ _ _ _ _ _ _ _ _ _ (tried .result) (tried .ensures) (none .match .keys2) _ _ _ (any .feed-any .ensures))
 
 pub feed-row-spec : {M : Type 1} → statement M
 feed-row-spec =
     tie.close
     (tie.spec
-    size-requires
-    is-plain-requires
-    feed-any-requires
+    try-short-requires
+    enum-known-short
     left-so-requires
     same-length
     returns
-    front-frame-requires
-    advanced-requires
+    enum-told
+    feed-any-requires
     left-so-requires-2
     same-length-2
-    returns-2
-    goes-on-requires
-    feed-on-requires
-    same-length-3
-    returns-3
-    is-few-requires
-    feed-few-requires
-    same-length-4
-    returns-4
-    feed-any-requires-2
-    left-so-requires-3
-    same-length-5
-    returns-5)
+    returns-2)

@@ -11,7 +11,7 @@ use borrow.Author.Tests.{not-true, not-false}
 use lib.ListN.{length, take, length-take, drop-of-length-le}
 use Rattle.rules.specs.Answers.{isFamily}
 use Rattle.stream_rules.specs.Heads.{longest, head}
-use Rattle.stream_rules.specs.Rule.{call}
+use Rattle.stream_rules.specs.Rule.{Call, call}
 use Rattle.stream_rules.specs.Streams.{holds, fed}
 use Rattle.stream_rules.specs.declared.Reader.{Reader}
 use Rattle.stream_laws.proofs.Facts.{top-above}
@@ -19,32 +19,56 @@ use Rattle.stream_laws.proofs.States.{longest-fits, refused-1, refused-6, refus
 use Rattle.stream_laws.proofs.Saying.{feeds}
 use Rattle.stream_laws.proofs.Families.{facts}
 use Rattle.stream.specs.Places.{readerAt, fedAt}
-use Rattle.stream.specs.Turns.{Turn, turned, StepFits, movedStep}
+use Rattle.stream.specs.Turns.{Turn, turned, StepFits}
 use Rattle.stream.proofs.Counts.{fedBy, by-call}
 use Rattle.stream.proofs.Closing.{turn-fits}
 use Rattle.stream.proofs.feeding.feed_places.Statement.{statement}
 use Rattle.stream.proofs.feeding.feed_places.Tie as tie
 
--- the reader of the parts
+-- the reader of the parts, and the call on it
 abbrev reader : tie.Start → Reader
 reader c = readerAt (c .args .family) (c .args .closed) (c .args .count) (c .args .held .now) (c .args .at) (c .args .skipped)
 
+abbrev called : tie.Start → Call
+called c = call (head (c .args .family)) (take (c .args .count) (c .args .held .now)) (c .args .offered .now)
+
+-- the start, from behind each test
+abbrev from-size : tie.After-size → tie.Start
+from-size c = c .before .before .before .before
+
+abbrev from-family : tie.After-is-family → tie.Start
+from-family c = from-size (c .before .before)
+
+abbrev from-longest : tie.After-longest-frame → tie.Start
+from-longest c = from-family (c .before .before)
+
 -- where the first tests have been passed
-places : (c : tie.Else1) → length (c .before .before .before .before .before .args .held .now) ≡ 133
+places : (c : tie.Else1) → length (from-size (c .before) .args .held .now) ≡ 133
 places c = sym (c .before .size .ensures) ∙ c .if1 .left
 
-a-family : (c : tie.Else2) → isFamily (c .before .before .before .before .before .before .before .args .family) ≡ true
+a-family : (c : tie.Else2) → isFamily (from-family (c .before) .args .family) ≡ true
 a-family c = sym (c .before .is-family .ensures) ∙ not-false _ (c .if2 .left)
 
-room : (c : tie.Else3) → c .before .before .before .before .before .before .before .before .before .args .count ≤ holds (c .before .before .before .before .before .before .before .before .before .args .family)
-room c = omega (arith, c .if3 .left, c .before .longest-frame .ensures)
+-- where all of them have been
+module _ (c : tie.Else3) where
+  abbrev start : tie.Start
+  start = from-longest (c .before)
 
--- the held bytes are fewer than the longest frame has
-few : (c : tie.Else3) → c .before .before .before .before .before .before .before .before .before .args .count < longest (c .before .before .before .before .before .before .before .before .before .args .family)
-few c = omega (arith, c .if3 .left, c .before .longest-frame .ensures)
+  family : isFamily (start .args .family) ≡ true
+  family = a-family (c .before .before)
 
-held-few : (c : tie.Else3) → length (take (c .before .before .before .before .before .before .before .before .before .args .count) (c .before .before .before .before .before .before .before .before .before .args .held .now)) < longest (c .before .before .before .before .before .before .before .before .before .args .family)
-held-few c = omega (arith, few c, length-take (c .before .before .before .before .before .before .before .before .before .args .count) (c .before .before .before .before .before .before .before .before .before .args .held .now))
+  long : length (start .args .held .now) ≡ 133
+  long = places (c .before .before .before .before)
+
+  room : start .args .count ≤ holds (start .args .family)
+  room = omega (arith, c .if3 .left, c .before .longest-frame .ensures)
+
+  -- the held bytes are fewer than the longest frame has
+  few : start .args .count < longest (start .args .family)
+  few = omega (arith, c .if3 .left, c .before .longest-frame .ensures)
+
+  held-few : length (take (start .args .count) (start .args .held .now)) < longest (start .args .family)
+  held-few = omega (arith, few, length-take (start .args .count) (start .args .held .now))
 
 size-requires : tie.Need-size-requires
 size-requires c κs = search needs
@@ -53,7 +77,7 @@ refused-requires : tie.Need-refused-requires
 refused-requires c κs = search needs
 
 returns : tie.Need-returns
-returns c = λ long. absurd (c .before .if1 .taken (c .before .before .size .ensures ∙ long))
+returns c = λ held. absurd (c .before .if1 .taken (c .before .before .size .ensures ∙ held))
 
 is-family-requires : tie.Need-is-family-requires
 is-family-requires c κs = search needs
@@ -62,9 +86,12 @@ refused-requires-2 : tie.Need-refused-requires-2
 refused-requires-2 c κs = search needs
 
 returns-2 : tie.Need-returns-2
-returns-2 c = λ long.
-    let a = c .before .before .before .before .before .before .before .before .args in
-    feeds (ap (fedAt (a .family) (a .closed) (a .held .now)) (c .refused2 .ensures) ∙ sym (refused-1 (reader (c .before .before .before .before .before .before .before .before)) (a .offered .now) (sym (c .before .before .is-family .ensures) ∙ not-true _ (c .before .if2 .taken))))
+returns-2 c = λ held.
+    let tested = c .before .before in
+    let s = from-family tested in
+    let none = sym (tested .is-family .ensures) ∙ not-true _ (c .before .if2 .taken) in
+    feeds (ap (fedAt (s .args .family) (s .args .closed) (s .args .held .now)) (c .refused2 .ensures)
+    ∙ sym (refused-1 (reader s) (s .args .offered .now) none))
 
 longest-frame-requires : tie.Need-longest-frame-requires
 longest-frame-requires c κs = search needs
@@ -73,69 +100,59 @@ refused-requires-3 : tie.Need-refused-requires-3
 refused-requires-3 c κs = search needs
 
 returns-3 : tie.Need-returns-3
-returns-3 c = λ long.
-    let a = c .before .before .before .before .before .before .before .before .before .before .args in
-    feeds (ap (fedAt (a .family) (a .closed) (a .held .now)) (c .refused3 .ensures)
-    ∙ sym (refused-6 (reader (c .before .before .before .before .before .before .before .before .before .before)) (a .offered .now) (a-family (c .before .before .before)) (omega (arith, c .before .if3 .taken, c .before .before .longest-frame .ensures, top-above (head (a .family)) _ (facts (a .family))))))
-
-sub-if5 : tie.Need-sub-if5
-sub-if5 c = omega (arith, few (c .before), longest-fits (c .before .before .before .before .before .before .before .before .before .before .args .family))
-
-take-few-requires : tie.Need-take-few-requires
-take-few-requires c κs =
-    let a = c .before .before .before .before .before .before .before .before .before .before .before .before .args in
-    (few (c .before .before .before), omega (arith, c .before .if5 .taken, few (c .before .before .before), longest-fits (a .family)), places (c .before .before .before .before .before .before .before))
-
-returns-4 : tie.Need-returns-4
-returns-4 c = λ long.
-    let a = c .before .before .before .before .before .before .before .before .before .before .before .before .before .args in
-    let r = reader (c .before .before .before .before .before .before .before .before .before .before .before .before .before) in
-    let turn = turned (call (head (a .family)) (take (a .count) (a .held .now)) (a .offered .now)) in
-    feeds (ap (fedAt (a .family) (a .closed) (c .take-few .last .1 .0)) (c .take-few .ensures .0)
-    ∙ ap (λ (left : List ℕ). fedAt (a .family) (a .closed) left (movedStep (a .at) (a .skipped) (turn .count) (turn .step))) (c .take-few .ensures .1)
-    ∙ by-call r (call (head (a .family)) (take (a .count) (a .held .now)) (a .offered .now))
-    ∙ sym (open-call r (a .offered .now) (a-family (c .before .before .before .before .before .before)) (room (c .before .before .before .before)) (c .before .before .before .if4 .taken)))
+returns-3 c = λ held.
+    let tested = c .before .before in
+    let s = from-longest tested in
+    let top = top-above (head (s .args .family)) _ (facts (s .args .family)) in
+    feeds (ap (fedAt (s .args .family) (s .args .closed) (s .args .held .now)) (c .refused3 .ensures)
+    ∙ sym (refused-6 (reader s) (s .args .offered .now) (a-family (tested .before)) (omega (arith, c .before .if3 .taken, tested .longest-frame .ensures, top))))
 
 advance-requires : tie.Need-advance-requires
 advance-requires c κs =
-    let family = c .before .before .before .before .before .before .before .before .before .before .before .before .args .family in
-    ((few (c .before .before .before), omega (arith, few (c .before .before .before), longest-fits family)), places (c .before .before .before .before .before .before .before))
+    let passed = c .before .before in
+    ((few passed, omega (arith, few passed, longest-fits (start passed .args .family))), long passed)
 
 answered-requires : tie.Need-answered-requires
 answered-requires c κs =
-    let start = c .before .before .before .before .before .before .before .before .before .before .before .before .before in
+    let passed = c .before .before .before in
+    let s = start passed in
     subst (λ (t : Turn). (t .count ≤ 133) × StepFits (t .step)) (sym (c .advance .ensures))
-    (turn-fits (start .args .family) (take (start .args .count) (start .args .held .now)) (start .args .offered .now) (held-few (c .before .before .before .before)) (omega (arith, start .good)))
+    (turn-fits (s .args .family) (take (s .args .count) (s .args .held .now)) (s .args .offered .now) (held-few passed) (omega (arith, s .good)))
 
-returns-5 : tie.Need-returns-5
-returns-5 c = λ long.
-    let a = c .before .before .before .before .before .before .before .before .before .before .before .before .before .before .args in
-    let r = reader (c .before .before .before .before .before .before .before .before .before .before .before .before .before .before) in
-    feeds (ap (fedAt (a .family) (a .closed) (c .before .advance .last .1 .0)) (c .answered .ensures)
-    ∙ ap (fedBy r) (c .before .advance .ensures)
-    ∙ by-call r (call (head (a .family)) (take (a .count) (a .held .now)) (a .offered .now))
-    ∙ sym (open-call r (a .offered .now) (a-family (c .before .before .before .before .before .before .before)) (room (c .before .before .before .before .before)) (c .before .before .before .before .if4 .taken)))
+returns-4 : tie.Need-returns-4
+returns-4 c = λ held.
+    let opened = c .before .before .before in
+    let passed = opened .before in
+    let s = start passed in
+    feeds (ap (fedAt (s .args .family) (s .args .closed) (c .before .advance .last .1 .0)) (c .answered .ensures)
+    ∙ ap (fedBy (reader s)) (c .before .advance .ensures)
+    ∙ by-call (reader s) (called s)
+    ∙ sym (open-call (reader s) (s .args .offered .now) (family passed) (room passed) (opened .if4 .taken)))
 
 refused-requires-4 : tie.Need-refused-requires-4
 refused-requires-4 c κs = search needs
 
-returns-6 : tie.Need-returns-6
-returns-6 c = λ long.
-    let a = c .before .before .before .before .before .before .before .before .before .before .before .before .args in
-    feeds (ap (fedAt (a .family) (a .closed) (a .held .now)) (c .refused4 .ensures)
-    ∙ sym (refused-5 (reader (c .before .before .before .before .before .before .before .before .before .before .before .before)) (a .offered .now) (a-family (c .before .before .before .before .before)) (room (c .before .before .before)) (c .before .before .if4 .left) (c .before .if6 .taken)))
+returns-5 : tie.Need-returns-5
+returns-5 c = λ held.
+    let closed = c .before .before in
+    let passed = closed .before in
+    let s = start passed in
+    feeds (ap (fedAt (s .args .family) (s .args .closed) (s .args .held .now)) (c .refused4 .ensures)
+    ∙ sym (refused-5 (reader s) (s .args .offered .now) (family passed) (room passed) (closed .if4 .left) (c .before .if5 .taken)))
 
 drain-requires : tie.Need-drain-requires
-drain-requires c κs = search needs
+drain-requires c κs = let passed = c .before .before .before in (few passed, long passed)
 
-returns-7 : tie.Need-returns-7
-returns-7 c = λ long.
-    let a = c .before .before .before .before .before .before .before .before .before .before .before .before .before .args in
-    let r = reader (c .before .before .before .before .before .before .before .before .before .before .before .before .before) in
-    let none : a .offered .now ≡ [] = drop-of-length-le (a .offered .now) {i = 0} (omega (arith, c .before .before .if6 .left)) in
-    feeds (c .drain .ensures (a .closed)
-    ∙ sym (closed-call r (a-family (c .before .before .before .before .before .before)) (room (c .before .before .before .before)) (c .before .before .before .if4 .left))
-    ∙ ap (fed r) (sym none))
+returns-6 : tie.Need-returns-6
+returns-6 c = λ held.
+    let empty = c .before .before in
+    let closed = empty .before in
+    let passed = closed .before in
+    let s = start passed in
+    let none : s .args .offered .now ≡ [] = drop-of-length-le (s .args .offered .now) {i = 0} (omega (arith, empty .if5 .left)) in
+    feeds (c .drain .ensures (s .args .closed)
+    ∙ sym (closed-call (reader s) (family passed) (room passed) (closed .if4 .left))
+    ∙ ap (fed (reader s)) (sym none))
 
 pub feed-places-spec : {M : Type 1} → statement M
 feed-places-spec =
@@ -150,13 +167,10 @@ feed-places-spec =
     longest-frame-requires
     refused-requires-3
     returns-3
-    sub-if5
-    take-few-requires
-    returns-4
     advance-requires
     answered-requires
-    returns-5
+    returns-4
     refused-requires-4
-    returns-6
+    returns-5
     drain-requires
-    returns-7)
+    returns-6)

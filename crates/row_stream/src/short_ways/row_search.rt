@@ -1,0 +1,127 @@
+// A search that lays the row of what it finds: a frame's, where the frame stands, or that of "more wanted". No frame is
+// handed on, so that none is copied.
+use rows::MORE_ROW;
+use rows::lay_head;
+use rows::read_row;
+use rules::REPLIES;
+use rules::REPORT_LENGTH;
+use search::Stop;
+use search::next_stop;
+use starts::begins_report;
+use stream::advanced;
+use texts::further;
+ghost use mathlib.Core.Path.{_≡_};
+ghost use mathlib.Core.Bool.{true};
+ghost use Prim.Native.Nat.{_≤_};
+ghost use lib.ListN.{length};
+ghost use Rattle.search.specs.Sought.{Stops, soughtIn};
+ghost use Rattle.search.specs.declared.Sought.the-variants.{Waiting};
+ghost use Rattle.row_stream.specs.RowSought.{ReportBegun, LaysSought};
+ghost use Rattle.rules.specs.Status.{reportLength};
+ghost use Rattle.rows.specs.Rows.{longestRow};
+
+// Where such a search came to: the frame's start and length, and how far the call takes bytes; or the first
+// undecided start, the length 0, and all the bytes.
+pub(crate) struct Place {
+    pub start: usize,
+    pub length: usize,
+    pub to: usize,
+}
+
+// True only where a report begins at the first byte, of family 1.
+fn report_begun(family: u8, s: &[u8]) -> bool
+    ensures { λ r. ⌜ (r ≡ true → ReportBegun family (now (s .entry))) ⌝ }
+{
+    if family != REPLIES {
+        return false;
+    }
+    begins_report(s)
+}
+
+// The first stop. A report that has begun and is whole is one: the walk need not be asked.
+fn first_stop(family: u8, s: &[u8], begun: bool) -> Stop
+    requires { ⌜ (begun ≡ true → ReportBegun family (now s) × (reportLength ≤ length (now s))) ⌝ }
+    ensures { λ r. ⌜ Stops family (now (s .entry)) 0 0 r ⌝ }
+{
+    if begun {
+        return Stop {
+            at: 0,
+            size: REPORT_LENGTH,
+            reach: 0,
+        };
+    }
+    next_stop(family, s, 0, 0)
+}
+
+// More is wanted, from a start on.
+fn lay_waiting(all: usize, count: usize, from: usize, numbers: &mut [i64]) -> Place
+    requires { ⌜ (count ≤ all) × (longestRow ≤ length (now numbers)) ⌝ }
+    ensures { λ p. ⌜ LaysSought all count 0 0 (Waiting from) (now (numbers .entry)) p (now (numbers .exit)) ⌝ }
+{
+    lay_head(MORE_ROW, 0, all - count, 0, 0, 0, numbers);
+    Place {
+        start: from,
+        length: 0,
+        to: all,
+    }
+}
+
+// The search from the first stop on, by a reader at a place that has skipped some bytes and held the first of these.
+fn walk(
+    family: u8,
+    s: &[u8],
+    count: usize,
+    at: u32,
+    skipped: u32,
+    first: Stop,
+    numbers: &mut [i64],
+) -> Place
+    requires { ⌜ Stops family (now s) 0 0 first × (count ≤ length (now s)) × (longestRow ≤ length (now numbers)) ⌝ }
+    ensures { λ p. ⌜ LaysSought (length (now (s .entry))) count at skipped (soughtIn family (now (s .entry))) (now (numbers .entry)) p (now (numbers .exit)) ⌝ }
+{
+    let mut stop = first;
+    while stop.size != 0 {
+        let start = stop.at;
+        let size = stop.size;
+        let reach = further(stop.reach, start + size);
+        let to = further(reach, count);
+        let number = read_row(
+            family,
+            &s[start..start + size],
+            to - count,
+            advanced(at, start),
+            advanced(skipped, start),
+            numbers,
+        );
+        if number == 0 {
+            return Place {
+                start,
+                length: size,
+                to,
+            };
+        }
+        stop = next_stop(family, s, start + 1, reach);
+    }
+    lay_waiting(s.len(), count, stop.at, numbers)
+}
+
+// The first start that is not bad, and the row of what stands there. A report that begins at the first byte and is not
+// whole is undecided.
+pub(crate) fn seek_row(
+    family: u8,
+    s: &[u8],
+    count: usize,
+    at: u32,
+    skipped: u32,
+    numbers: &mut [i64],
+) -> Place
+    requires { ⌜ (count ≤ length (now s)) × (longestRow ≤ length (now numbers)) ⌝ }
+    ensures { λ p. ⌜ LaysSought (length (now (s .entry))) count at skipped (soughtIn family (now (s .entry))) (now (numbers .entry)) p (now (numbers .exit)) ⌝ }
+{
+    let begun = report_begun(family, s);
+    if begun & (s.len() < REPORT_LENGTH) {
+        return lay_waiting(s.len(), count, 0, numbers);
+    }
+    let first = first_stop(family, s, begun);
+    walk(family, s, count, at, skipped, first, numbers)
+}
