@@ -12,7 +12,7 @@ use lib.Seq.{length-take-le}
 use Rattle.rules.specs.Answers.{isGood, readOne}
 use Rattle.rules.specs.Codes.{isAck, isCommand}
 use Rattle.rules.specs.Status.{isStatus}
-use Rattle.stream_rules.specs.Heads.{needs}
+use Rattle.stream_rules.specs.Heads.{isSpe, needs}
 use Rattle.frames.proofs.Goods.{command-is, ack-is, report-is}
 use Rattle.stream_laws.proofs.Heads.{good-head}
 use Rattle.stream_laws.proofs.PacketStarts.{needs-packet, needs-report, needs-none}
@@ -22,7 +22,7 @@ use Rattle.captures.proofs.Sizes.{size-none, size-good, size-refused}
 
 module _ (bs : List ℕ) where
   -- a count that is not allowed: no frame
-  pub not-allowed : (family : ℕ) → (family ≡ 2 → ⊥) → needs family (getD bs 3 0) ≡ 0 → 0 ≡ sizeAt family bs
+  pub not-allowed : (family : ℕ) → isSpe family ≡ true → needs family (getD bs 3 0) ≡ 0 → 0 ≡ sizeAt family bs
   not-allowed family spe none = size-none family bs (λ n f e. let g = good-head family bs n f e in omega (arith, g .some, g .declared ∙ counted family spe bs, none))
 
   -- six bytes that are a command, or are none
@@ -33,7 +33,7 @@ module _ (bs : List ℕ) where
   no-command e =
       elim (ℕ-discrete (getD bs 3 0) 0x01) [
         | yes one ↦ size-refused 3 bs 6 (needs-packet 3 (getD bs 3 0) one) (command-is (take 6 bs) ∙ e)
-        | no other ↦ not-allowed 3 (λ p. omega (arith, p)) (needs-none 3 (getD bs 3 0) other (λ p. omega (arith, p)))
+        | no other ↦ not-allowed 3 refl (needs-none 3 (getD bs 3 0) other (λ p. omega (arith, p)))
       ]
 
   -- six bytes that are an acknowledgement, or, with its count, are none

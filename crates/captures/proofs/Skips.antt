@@ -3,13 +3,14 @@
 -- Assumes nothing.
 use Prim.Native.Nat.{ℕ, _+_, _-_, _≤_, _<_}
 use Prim.Native.Char.{code}
-use mathlib.Core.Path.{_≡_, sym, ap, _∙_}
+use mathlib.Core.Path.{_≡_, sym, _∙_}
+use mathlib.Core.Bool.{true}
 use mathlib.Core.List.{List}
 use native.Mathlib.Decide.{ℕ-discrete, decLt}
 use native.Mathlib.Omega.{arith}
 use lib.ListN.{length, drop, getD, length-drop}
 use lib.Seq.{drop-drop, getD-drop}
-use Rattle.stream_rules.specs.Heads.{markOf, payloadRun, head}
+use Rattle.stream_rules.specs.Heads.{isSpe, markOf, payloadRun, head}
 use Rattle.stream_laws.proofs.Runs.{run-within}
 use Rattle.stream_laws.proofs.Starts.{NotGood, bad-not-good}
 use Rattle.search.proofs.Passing.{mark-is-no-count, behind-no-mark, not-dollar, in-the-run}
@@ -44,13 +45,13 @@ pub over-none : (family : ℕ) (s : List ℕ) (at : ℕ) → at < length s → 0
 over-none family s at there none = passes family s at 1 (omega arith) (and-behind family s at 1 none (λ j q p. absurd (omega arith)))
 
 -- a mark in a count's place: none here;
-pub over-mark : (family : ℕ) (spe : family ≡ 2 → ⊥) (s : List ℕ) (at : ℕ) → at + 4 ≤ length s → getD s (at + 3) 0 ≡ markOf family → Passes family s at (at + 1)
+pub over-mark : (family : ℕ) (spe : isSpe family ≡ true) (s : List ℕ) (at : ℕ) → at + 4 ≤ length s → getD s (at + 3) 0 ≡ markOf family → Passes family s at (at + 1)
 over-mark family spe s at there e =
     over-none family s at (omega arith)
     (size-none family (drop at s) (bad-not-good (mark-is-no-count family spe (drop at s) (omega (arith, length-drop at s)) (getD-drop at s 3 0 ∙ e) .0)))
 
 -- none there: neither here, where no frame stands, nor at the next three;
-pub over-four : (family : ℕ) (spe : family ≡ 2 → ⊥) (s : List ℕ) (at : ℕ) → at + 4 ≤ length s → (getD s (at + 3) 0 ≡ markOf family → ⊥)
+pub over-four : (family : ℕ) (spe : isSpe family ≡ true) (s : List ℕ) (at : ℕ) → at + 4 ≤ length s → (getD s (at + 3) 0 ≡ markOf family → ⊥)
     → 0 ≡ sizeAt family (drop at s) → Passes family s at (at + 4)
 over-four family spe s at there other none =
     passes family s at 4 there

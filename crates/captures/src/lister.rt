@@ -22,7 +22,7 @@ ghost use mathlib.Core.Path.{_≡_};
 ghost use mathlib.Core.Bool.{true};
 ghost use Prim.Native.Nat.{_≤_};
 ghost use lib.ListN.{length, set};
-ghost use Rattle.rules.specs.Answers.{isFamily};
+ghost use Rattle.rules.specs.Answers.{replies, sentences, commands, isFamily};
 ghost use Rattle.stream_rules.specs.Lister.{longestCapture, frames, Lists, NextFrame};
 ghost use Rattle.captures.specs.Fills.{Fills};
 
@@ -39,7 +39,7 @@ fn note(starts: &mut [u32], n: usize, at: usize)
 // Fills in the starts of commands, as far as there are places, and gives how many there are.
 fn fill_commands(capture: &[u8], starts: &mut [u32]) -> usize
     requires { ⌜ length (now capture) ≤ longestCapture ⌝ }
-    ensures { λ r. ⌜ Fills 3 (now (capture .entry)) (now (starts .entry)) r (now (starts .exit)) ⌝ }
+    ensures { λ r. ⌜ Fills commands (now (capture .entry)) (now (starts .entry)) r (now (starts .exit)) ⌝ }
 {
     let mut at = 0;
     let mut n = 0;
@@ -60,7 +60,7 @@ fn fill_commands(capture: &[u8], starts: &mut [u32]) -> usize
 // frame starts in the three places behind the start.
 fn fill_replies(capture: &[u8], starts: &mut [u32]) -> usize
     requires { ⌜ length (now capture) ≤ longestCapture ⌝ }
-    ensures { λ r. ⌜ Fills 1 (now (capture .entry)) (now (starts .entry)) r (now (starts .exit)) ⌝ }
+    ensures { λ r. ⌜ Fills replies (now (capture .entry)) (now (starts .entry)) r (now (starts .exit)) ⌝ }
 {
     let mut at = 0;
     let mut n = 0;
@@ -84,7 +84,7 @@ fn fill_replies(capture: &[u8], starts: &mut [u32]) -> usize
 // The same for sentences. None starts at a payload byte.
 fn fill_sentences(capture: &[u8], starts: &mut [u32]) -> usize
     requires { ⌜ length (now capture) ≤ longestCapture ⌝ }
-    ensures { λ r. ⌜ Fills 2 (now (capture .entry)) (now (starts .entry)) r (now (starts .exit)) ⌝ }
+    ensures { λ r. ⌜ Fills sentences (now (capture .entry)) (now (starts .entry)) r (now (starts .exit)) ⌝ }
 {
     let mut at = 0;
     let mut n = 0;

@@ -14,13 +14,14 @@ ghost use mathlib.Core.Path.{_≡_};
 ghost use mathlib.Core.Bool.{false};
 ghost use Prim.Native.Nat.{_+_, min, _≤_, _<_};
 ghost use lib.ListN.{length, drop};
+ghost use Rattle.rules.specs.Answers.{replies, sentences, commands};
 ghost use Rattle.stream_rules.specs.Heads.{payloadRun};
 ghost use Rattle.captures.specs.Sizes.{sizeAt, Passes};
 
 // How long the good command at the head is; 0 where there is none. Its bytes are looked at together:
 // most starts that are tried are good.
 pub(crate) fn command_size(s: &[u8]) -> usize
-    ensures { λ r. ⌜ r ≡ sizeAt 3 (now (s .entry)) ⌝ }
+    ensures { λ r. ⌜ r ≡ sizeAt commands (now (s .entry)) ⌝ }
 {
     if s.len() < PACKET_LENGTH {
         return 0;
@@ -34,7 +35,7 @@ pub(crate) fn command_size(s: &[u8]) -> usize
 // How long the good acknowledgement or report at the head is; 0 where there is none. The count tells
 // which it can be.
 pub(crate) fn reply_size(s: &[u8]) -> usize
-    ensures { λ r. ⌜ r ≡ sizeAt 1 (now (s .entry)) ⌝ }
+    ensures { λ r. ⌜ r ≡ sizeAt replies (now (s .entry)) ⌝ }
 {
     if s.len() < PACKET_LENGTH {
         return 0;
@@ -65,7 +66,7 @@ pub(crate) fn reply_size(s: &[u8]) -> usize
 // False only where no good sentence starts, by what stands in its name's place: that begins with an A, and no
 // digit is below 0.
 pub(crate) fn may_be_sentence(s: &[u8]) -> bool
-    ensures { λ r. ⌜ (r ≡ false → 0 ≡ sizeAt 2 (now (s .entry))) ⌝ }
+    ensures { λ r. ⌜ (r ≡ false → 0 ≡ sizeAt sentences (now (s .entry))) ⌝ }
 {
     if s.len() < 6 {
         return false;
@@ -80,7 +81,7 @@ pub(crate) fn may_be_sentence(s: &[u8]) -> bool
 // is none.
 pub(crate) fn sentence_size(s: &[u8], n: usize) -> usize
     requires { ⌜ n ≡ min (length (payloadRun (drop 1 (now s)))) 129 ⌝ }
-    ensures { λ r. ⌜ r ≡ sizeAt 2 (now (s .entry)) ⌝ }
+    ensures { λ r. ⌜ r ≡ sizeAt sentences (now (s .entry)) ⌝ }
 {
     if LONGEST_PAYLOAD < n {
         return 0;
@@ -101,7 +102,7 @@ pub(crate) fn sentence_size(s: &[u8], n: usize) -> usize
 // for: no count is a mark.
 fn past_marks(s: &[u8], from: usize) -> usize
     requires { ⌜ from ≤ length (now s) ⌝ }
-    ensures { λ r. ⌜ Passes 3 (now (s .entry)) from r ⌝ }
+    ensures { λ r. ⌜ Passes commands (now (s .entry)) from r ⌝ }
 {
     let mut at = from;
     while PACKET_LENGTH <= s.len() - at {
@@ -116,8 +117,8 @@ fn past_marks(s: &[u8], from: usize) -> usize
 // Behind a start with no command, the next at which one may stand. Where no mark stands in a count's place, none
 // starts in the three places behind the start.
 pub(crate) fn next_command(s: &[u8], from: usize) -> usize
-    requires { ⌜ (from + 6 ≤ length (now s)) × (0 ≡ sizeAt 3 (drop from (now s))) ⌝ }
-    ensures { λ r. ⌜ (from < r) × Passes 3 (now (s .entry)) from r ⌝ }
+    requires { ⌜ (from + 6 ≤ length (now s)) × (0 ≡ sizeAt commands (drop from (now s))) ⌝ }
+    ensures { λ r. ⌜ (from < r) × Passes commands (now (s .entry)) from r ⌝ }
 {
     if s[from + 3] != COMMAND_MARK {
         return past_marks(s, from + 4);

@@ -19,6 +19,16 @@ use Rattle.rules.specs.declared.Reading.the-variants.{Good, Refused}
 use Rattle.rules.specs.declared.Written.{Written}
 use Rattle.rules.specs.declared.Written.the-variants.{Length, Refused as NotWritten}
 
+-- The numbers of the families: replies of an SPE amplifier, sentences of the Alpha 9500, commands to an SPE amplifier.
+abbrev pub replies : ℕ
+replies = 1
+
+abbrev pub sentences : ℕ
+sentences = 2
+
+abbrev pub commands : ℕ
+commands = 3
+
 -- The numbers for no, of those that a reader of one frame and a writer give.
 abbrev pub noFamily : ℕ
 noFamily = 1
@@ -122,13 +132,13 @@ readFamily3 bs = cond (isCommand bs) (Good (Command (getD bs 4 0))) (Refused not
 -- A reader of one frame: refusal 1 where the family is not 1, 2 or 3, else 8 where the bytes are not one good frame.
 unfoldable pub readOne : ℕ → List ℕ → Reading
 readOne family bs =
-    cond (eqb family 1) (readFamily1 bs)
-    (cond (eqb family 2) (readFamily2 bs)
-    (cond (eqb family 3) (readFamily3 bs)
+    cond (eqb family replies) (readFamily1 bs)
+    (cond (eqb family sentences) (readFamily2 bs)
+    (cond (eqb family commands) (readFamily3 bs)
     (Refused noFamily)))
 
 abbrev pub isFamily : ℕ → Bool
-isFamily family = oneOf (1 ∷ 2 ∷ 3 ∷ []) family
+isFamily family = oneOf (replies ∷ sentences ∷ commands ∷ []) family
 
 abbrev pub valuesOr8 : Reading → Says
 valuesOr8 (Good f) = yes (kindOf f) (values f)
@@ -155,13 +165,13 @@ pub record Writes (allowed : Bool) (n : ℕ) (frame out : List ℕ) (answer : Wr
 -- What the writers know of a frame: the family that reads it, whether its code or record is allowed, and its bytes. An
 -- "other" sentence has no writer.
 abbrev pub familyOf : Frame → ℕ
-familyOf (Ack c) = 1
-familyOf (Status s) = 1
-familyOf (Command c) = 3
-familyOf (Apa02 r) = 2
-familyOf (Apa03 r) = 2
-familyOf (Apa05 r) = 2
-familyOf (Other n) = 2
+familyOf (Ack c) = replies
+familyOf (Status s) = replies
+familyOf (Command c) = commands
+familyOf (Apa02 r) = sentences
+familyOf (Apa03 r) = sentences
+familyOf (Apa05 r) = sentences
+familyOf (Other n) = sentences
 
 unfoldable pub allowed : Frame → Bool
 allowed (Ack c) = isAckCode c

@@ -13,7 +13,7 @@ use lib.Dec.{eqb}
 use lib.ListN.{length, drop, getD, length-drop}
 use lib.Seq.{getD-drop}
 use Rattle.rules.specs.Sentences.{isPayloadByte}
-use Rattle.stream_rules.specs.Heads.{markOf, needs, payloadRun, bad, head}
+use Rattle.stream_rules.specs.Heads.{isSpe, markOf, needs, payloadRun, bad, head}
 use Rattle.stream_laws.specs.Settled.{settled}
 use Rattle.stream_laws.proofs.PacketStarts.{needs-none, Marks, no-marks, one-more, no-mark, no-count}
 use Rattle.stream_laws.proofs.Runs.{run, run-within}
@@ -40,7 +40,7 @@ mark-needs-none family count mark =
     (λ p. mark-not family 0x01 (λ q. omega (arith, q)) (λ q. omega (arith, q)) (sym mark ∙ p))
     (λ one p. mark-not family 0x43 (λ q. omega (arith, q)) (λ q. omega (arith, q)) (sym mark ∙ p))
 
-module _ (family : ℕ) (spe : family ≡ 2 → ⊥) (bs : List ℕ) where
+module _ (family : ℕ) (spe : isSpe family ≡ true) (bs : List ℕ) where
   -- A start that marks would make bad is bad, since without them it is, and sooner.
   with-marks : (k d : ℕ) → k ≤ 3 → k ≤ length bs → k ≤ d → (Marks family k bs → BadBy family bs d) → BadBy family bs d
   with-marks zero d low there few then = then (no-marks family bs)
@@ -64,13 +64,13 @@ module _ (family : ℕ) (spe : family ≡ 2 → ⊥) (bs : List ℕ) where
       (λ marks. let h = no-count family spe bs there marks (mark-needs-none family (getD bs 3 0) mark) in (h .0, omega (arith, h .1)))
 
 -- A start at another byte than a mark, within some bytes.
-pub unmarked : (family : ℕ) (spe : family ≡ 2 → ⊥) (bs : List ℕ) (at : ℕ) → at < length bs → (getD bs at 0 ≡ markOf family → ⊥) → BadBy family (drop at bs) 1
+pub unmarked : (family : ℕ) (spe : isSpe family ≡ true) (bs : List ℕ) (at : ℕ) → at < length bs → (getD bs at 0 ≡ markOf family → ⊥) → BadBy family (drop at bs) 1
 unmarked family spe bs at there other =
     not-marked family spe (drop at bs) 0 (omega arith) (omega (arith, length-drop at bs))
     (λ e. other (ap (λ (k : ℕ). getD bs k 0) (omega arith) ∙ sym (getD-drop at bs 0 0) ∙ e))
 
 -- Where the fourth byte is no mark, the three starts behind the first are bad, settled by that byte at the latest.
-pub behind-no-mark : (family : ℕ) (spe : family ≡ 2 → ⊥) (bs : List ℕ) → 4 ≤ length bs → (getD bs 3 0 ≡ markOf family → ⊥)
+pub behind-no-mark : (family : ℕ) (spe : isSpe family ≡ true) (bs : List ℕ) → 4 ≤ length bs → (getD bs 3 0 ≡ markOf family → ⊥)
     → (j : ℕ) → 0 < j → j < 4 → BadBy family (drop j bs) (4 - j)
 behind-no-mark family spe bs there other j some few =
     let h =

@@ -78,9 +78,6 @@ module _ (family : ℕ) (s : List ℕ) (p : Stop) (stops : Stops family s 0 0 p)
 
 -- The marks and the count of a report at the first byte: it is undecided, or whole.
 module _ (bs : List ℕ) (b : Begun bs) where
-  no-sentence : _≡_ {A = ℕ} 1 2 → ⊥
-  no-sentence e = omega arith
-
   marks : Marks 1 3 bs
   marks i low =
       elim (ℕ-discrete i 0) [
@@ -92,8 +89,8 @@ module _ (bs : List ℕ) (b : Begun bs) where
       ]
 
   pub begun-waits : length bs < 75 → Stops 1 bs 0 0 (record { at = 0; size = 0; reach = 0 })
-  begun-waits few = stops-waiting 1 bs 0 0 0 0 (begins 1 bs 0 0) (bytes-missing 1 no-sentence bs (b .there) marks 75 (rw (b .count)) few)
+  begun-waits few = stops-waiting 1 bs 0 0 0 0 (begins 1 bs 0 0) (bytes-missing 1 refl bs (b .there) marks 75 (rw (b .count)) few)
 
   pub begun-whole : 75 ≤ length bs → Stops 1 bs 0 0 (record { at = 0; size = 75; reach = 0 })
   begun-whole enough =
-      stops-to-read 1 bs 0 0 0 0 75 (begins 1 bs 0 0) (all-there 1 no-sentence bs (b .there) marks 75 (rw (b .count)) (omega arith) enough)
+      stops-to-read 1 bs 0 0 0 0 75 (begins 1 bs 0 0) (all-there 1 refl bs (b .there) marks 75 (rw (b .count)) (omega arith) enough)

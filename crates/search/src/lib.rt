@@ -13,13 +13,15 @@ use spe::is_ack;
 use spe::is_command;
 use starts::Seen;
 use starts::examine;
+use starts::is_spe;
 use starts::mark_of;
 use texts::further;
 ghost use mathlib.Core.Path.{_≡_};
 ghost use mathlib.Core.Bool.{true, false};
 ghost use Prim.Native.Nat.{_≤_, _<_};
 ghost use lib.ListN.{length, getD};
-ghost use Rattle.rules.specs.Answers.{isGood, readOne};
+ghost use Rattle.rules.specs.Answers.{sentences, isGood, readOne};
+ghost use Rattle.stream_rules.specs.Heads.{isSpe};
 ghost use Rattle.search.specs.Sought.{soughtIn, firstFrom, Unmarked, Stops};
 
 // A good frame whose earlier starts are all bad: its place, its length, how far the bytes reach that
@@ -46,7 +48,7 @@ pub enum First {
 // True only of bytes that are no good packet or report: an end that is not a report's, or a code that is not
 // allowed or does not stand twice. The values of a report are not looked at.
 fn ruled_out(family: u8, s: &[u8]) -> bool
-    requires { ⌜ (family ≡ 2 → ⊥) ⌝ }
+    requires { ⌜ isSpe family ≡ true ⌝ }
     ensures { λ r. ⌜ (r ≡ true → isGood (readOne family (now (s .entry))) ≡ false) ⌝ }
 {
     if s.len() == REPORT_LENGTH {
@@ -126,7 +128,7 @@ fn past_unmarked(family: u8, mark: u8, s: &[u8], from: usize) -> usize
 
 // The first stop from a place on, of packets and reports. No count is a mark.
 fn packet_stop(family: u8, s: &[u8], from: usize, far: usize) -> Stop
-    requires { ⌜ (family ≡ 2 → ⊥) ⌝ }
+    requires { ⌜ isSpe family ≡ true ⌝ }
     ensures { λ r. ⌜ Stops family (now (s .entry)) from far r ⌝ }
 {
     let mark = mark_of(family);
@@ -157,7 +159,7 @@ fn packet_stop(family: u8, s: &[u8], from: usize, far: usize) -> Stop
 // The same of sentences. Before the byte that settled a bad one there is no other `$`; and what settles a start
 // never reaches behind a frame that starts later.
 fn sentence_stop(s: &[u8], from: usize, far: usize) -> Stop
-    ensures { λ r. ⌜ Stops 2 (now (s .entry)) from far r ⌝ }
+    ensures { λ r. ⌜ Stops sentences (now (s .entry)) from far r ⌝ }
 {
     let mut at = from;
     while at < s.len() {
@@ -194,10 +196,10 @@ fn sentence_stop(s: &[u8], from: usize, far: usize) -> Stop
 pub fn next_stop(family: u8, s: &[u8], from: usize, far: usize) -> Stop
     ensures { λ r. ⌜ Stops family (now (s .entry)) from far r ⌝ }
 {
-    if family == SENTENCES {
-        return sentence_stop(s, from, far);
+    if is_spe(family) {
+        return packet_stop(family, s, from, far);
     }
-    packet_stop(family, s, from, far)
+    sentence_stop(s, from, far)
 }
 
 // The first start that is not bad.

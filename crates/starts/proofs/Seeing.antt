@@ -12,9 +12,9 @@ use native.Mathlib.Omega.{arith}
 use borrow.Author.Tests.{eq-eqb, ne-eqb, eqb-true, eqb-false, le-leb}
 use lib.Dec.{eqb, lit≤}
 use lib.ListN.{length, take, getD}
-use Rattle.rules.specs.Answers.{readOne}
+use Rattle.rules.specs.Answers.{sentences, readOne}
 use Rattle.frame_laws.proofs.Bytes.{answer}
-use Rattle.stream_rules.specs.Heads.{wait, bad, markOf, needs, lengthAt, undecided as waits, headOf, head}
+use Rattle.stream_rules.specs.Heads.{isSpe, wait, bad, markOf, needs, lengthAt, undecided as waits, headOf, head}
 use Rattle.stream_laws.specs.Settled.{spe-settled, sentence-settled, settled}
 use Rattle.stream_laws.proofs.Course.{headOf-decided, headOf-bad}
 use Rattle.stream_laws.proofs.Heads.{good-head}
@@ -106,11 +106,11 @@ module _ (family : ℕ) (bs : List ℕ) where
 
   -- No frame has fewer than six bytes: a count that is allowed needs six or more, and a sentence has six besides its payload.
   pub at-least-six : 0 < lengthAt family bs → 6 ≤ lengthAt family bs
-  at-least-six = case (eqb family 2)
+  at-least-six = case (isSpe family)
     where
-      case : (b : Bool) → 0 < cond b (run bs + 6) (needs family (getD bs 3 0)) → 6 ≤ cond b (run bs + 6) (needs family (getD bs 3 0))
-      case true h = omega arith
-      case false h = needs-six family (getD bs 3 0) h
+      case : (b : Bool) → 0 < cond b (needs family (getD bs 3 0)) (run bs + 6) → 6 ≤ cond b (needs family (getD bs 3 0)) (run bs + 6)
+      case true h = needs-six family (getD bs 3 0) h
+      case false h = omega arith
 
   pub whole-size : (n : ℕ) → 0 < n → seen family bs ≡ Whole n → 6 ≤ n
   unfolding seen
@@ -120,12 +120,12 @@ module _ (family : ℕ) (bs : List ℕ) where
 
 -- Of an SPE family: k marks and nothing more, k below four, is undecided; a start that fewer than six bytes settle is bad,
 -- since no count needs so few; and the length is what the count needs.
-module _ (family : ℕ) (spe : family ≡ 2 → ⊥) (bs : List ℕ) where
+module _ (family : ℕ) (spe : isSpe family ≡ true) (bs : List ℕ) where
   pub few : (k : ℕ) → length bs ≡ k → k < 4 → Marks family k bs → Undecided ≡ seen family bs
   few k e h m = undecided family bs (few-marks family spe bs (omega arith) (subst⁻¹ (λ (n : ℕ). Marks family n bs) e m))
 
   pub counted : lengthAt family bs ≡ needs family (getD bs 3 0)
-  counted = rw (ne-eqb family 2 spe)
+  counted = rw spe
 
   pub bad-packet : (d : ℕ) → 0 < d → d < 6 → (head family bs ≡ bad) × (settled family bs ≡ d) → Bad d ≡ seen family bs
   bad-packet d some low e =
@@ -135,7 +135,7 @@ module _ (family : ℕ) (spe : family ≡ 2 → ⊥) (bs : List ℕ) where
   -- A start that is seen to be bad was settled by four bytes or fewer: by a byte that is no mark, or by its count.
   settled-is : settled family bs ≡ spe-settled family bs
   unfolding settled
-  settled-is = rw (ne-eqb family 2 spe)
+  settled-is = rw spe
 
   at-most-four : (a b c d : Bool) (n : ℕ) → (cond a 1 (cond b 2 (cond c 3 (cond d 4 n))) ≡ n → ⊥) → cond a 1 (cond b 2 (cond c 3 (cond d 4 n))) ≤ 4
   at-most-four true b c d n other = lit≤ tt
@@ -152,6 +152,11 @@ module _ (family : ℕ) (spe : family ≡ 2 → ⊥) (bs : List ℕ) where
       λ same. eqb-false (settled family bs) (lengthAt family bs) (h .1 .0) (settled-is ∙ same ∙ sym counted) in
       let mark : ℕ → Bool = λ k. not (eqb (markOf family) (getD bs k 0)) in
       omega (arith, at-most-four (mark 0) (mark 1) (mark 2) (eqb (needs family (getD bs 3 0)) 0) (needs family (getD bs 3 0)) other, settled-is, h .1 .1)
+
+-- What is no SPE packet is seen as a sentence.
+pub seen-other : (family : ℕ) (bs : List ℕ) → isSpe family ≡ false → seen sentences bs ≡ seen family bs
+unfolding seen waits settled
+seen-other family bs other = rw other
 
 -- A `$` that is seen to be a bad start was settled by the byte behind its payload bytes, or by one of them.
 pub bad-behind : (bs : List ℕ) → getD bs 0 0 ≡ code "$" → (d : ℕ) → seen 2 bs ≡ Bad d → (2 ≤ d) × (d ≤ run bs + 2)

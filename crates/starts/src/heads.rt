@@ -1,12 +1,15 @@
 // What is known of a start before a frame is read there: a bad start with the number of bytes that settled
 // it, an undecided one, or as many bytes as a frame there has. (The frame is read by whoever wants it:
 // through here it would be copied twice.)
+use crate::families::is_spe;
 use crate::marks::bytes_needed;
 use crate::marks::mark_of;
 use crate::marks::payload_bytes;
 use rules::LONGEST_PAYLOAD;
-use rules::SENTENCES;
 ghost use mathlib.Core.Path.{_≡_};
+ghost use mathlib.Core.Bool.{true};
+ghost use Rattle.rules.specs.Answers.{sentences};
+ghost use Rattle.stream_rules.specs.Heads.{isSpe};
 ghost use Rattle.starts.specs.Seen.{seen};
 
 pub enum Seen {
@@ -19,7 +22,7 @@ pub enum Seen {
 
 // A start of an SPE family.
 fn examine_packet(family: u8, s: &[u8]) -> Seen
-    requires { ⌜ (family ≡ 2 → ⊥) ⌝ }
+    requires { ⌜ isSpe family ≡ true ⌝ }
     ensures { λ r. ⌜ r ≡ seen family (now (s .entry)) ⌝ }
 {
     let mark = mark_of(family);
@@ -56,7 +59,7 @@ fn examine_packet(family: u8, s: &[u8]) -> Seen
 
 // A start of the Alpha's family.
 fn examine_sentence(s: &[u8]) -> Seen
-    ensures { λ r. ⌜ r ≡ seen 2 (now (s .entry)) ⌝ }
+    ensures { λ r. ⌜ r ≡ seen sentences (now (s .entry)) ⌝ }
 {
     if s.len() == 0 {
         return Seen::Undecided;
@@ -84,8 +87,8 @@ fn examine_sentence(s: &[u8]) -> Seen
 pub fn examine(family: u8, s: &[u8]) -> Seen
     ensures { λ r. ⌜ r ≡ seen family (now (s .entry)) ⌝ }
 {
-    if family == SENTENCES {
-        return examine_sentence(s);
+    if is_spe(family) {
+        return examine_packet(family, s);
     }
-    examine_packet(family, s)
+    examine_sentence(s)
 }

@@ -4,6 +4,7 @@ mod heads;
 mod marks;
 
 pub use families::is_family;
+pub use families::is_spe;
 pub use heads::Seen;
 pub use heads::examine;
 pub use marks::begins_report;

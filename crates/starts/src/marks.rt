@@ -10,7 +10,6 @@ use rules::REPLIES;
 use rules::REPLY_MARK;
 use rules::REPORT_COUNT;
 use rules::REPORT_LENGTH;
-use rules::SENTENCES;
 use texts::text;
 ghost use mathlib.Core.Path.{_≡_};
 ghost use Prim.Native.Nat.{min};
@@ -51,10 +50,10 @@ pub fn longest_frame(family: u8) -> usize
     if family == REPLIES {
         return REPORT_LENGTH;
     }
-    if family == SENTENCES {
-        return LONGEST_SENTENCE;
+    if family == COMMANDS {
+        return PACKET_LENGTH;
     }
-    PACKET_LENGTH
+    LONGEST_SENTENCE
 }
 
 // Whether a report begins at the first byte: three marks of family 1, and the count 43.

@@ -21,7 +21,7 @@ use Rattle.rules.specs.declared.Frame.the-variants.{Ack, Status, Command}
 use Rattle.rules.specs.declared.Reading.{Reading}
 use Rattle.rules.specs.declared.Reading.the-variants.{Good, Refused}
 use Rattle.frame_laws.proofs.Bytes.{tests, same-eq, every-split, between-bounds}
-use Rattle.stream_rules.specs.Heads.{wait, good, markOf, needs, payloadRun, spe-undecided, undecided, lengthAt, headOf, head}
+use Rattle.stream_rules.specs.Heads.{isSpe, wait, good, markOf, needs, payloadRun, spe-undecided, undecided, lengthAt, headOf, head}
 
 -- What is good at the head is what the reader of one frame reads from as many bytes.
 head-of-good : (n m : ℕ) (f : Frame) (r : Reading) → headOf m r ≡ good n f → (m ≡ n) × (r ≡ Good f)
@@ -76,7 +76,7 @@ spe-decided family c rest p =
     (le-ltb (length bs) 4 (omega arith))
     (le-ltb (length bs) (needs family c) (omega arith))
 
-module _ (family : ℕ) (spe : eqb family 2 ≡ false) (bs : List ℕ) (n : ℕ) (f : Frame) (whole : n ≤ length bs) (reads : readOne family (take n bs) ≡ Good f) where
+module _ (family : ℕ) (spe : isSpe family ≡ true) (bs : List ℕ) (n : ℕ) (f : Frame) (whole : n ≤ length bs) (reads : readOne family (take n bs) ≡ Good f) where
   spe-finds : (c : ℕ) (rest : List ℕ) → take n bs ≡ markOf family ∷ markOf family ∷ markOf family ∷ c ∷ rest → needs family c ≡ n → head family bs ≡ good n f
   unfolding undecided
   spe-finds c rest e size =
@@ -89,7 +89,7 @@ module _ (family : ℕ) (spe : eqb family 2 ≡ false) (bs : List ℕ) (n : ℕ)
       decided-good family bs n f (rw spe settled) (rw (spe, count) size) reads
 
 -- a packet of one byte
-module _ (family : ℕ) (spe : eqb family 2 ≡ false) (six : needs family 0x01 ≡ 6) (bs : List ℕ) (n : ℕ) (f : Frame) (whole : n ≤ length bs)
+module _ (family : ℕ) (spe : isSpe family ≡ true) (six : needs family 0x01 ≡ 6) (bs : List ℕ) (n : ℕ) (f : Frame) (whole : n ≤ length bs)
     (reads : readOne family (take n bs) ≡ Good f) where
   packet-finds : isPacket (markOf family) (take n bs) ≡ true → head family bs ≡ good n f
   packet-finds p =

@@ -7,6 +7,7 @@
 -- answers say in the terms of document 01, and `Single` that each promise leaves one answer.
 pub mod Lists
 pub mod Course
+pub mod Numbers
 pub mod PacketStarts
 pub mod PacketCourse
 pub mod Runs

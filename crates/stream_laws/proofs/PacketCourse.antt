@@ -3,22 +3,22 @@
 -- A front has the whole's bytes as far as it goes, so each rule carries over. Assumes nothing.
 use Prim.Native.Nat.{ℕ, zero, suc, _+_, _<_, _≤_}
 use mathlib.Core.Path.{_≡_, refl, sym, ap, _∙_}
+use mathlib.Core.Bool.{true}
 use mathlib.Core.List.{List}
 use mathlib.Core.Logic.{⊎-elim}
 use native.Mathlib.Decide.{decLt, ℕ-discrete}
 use native.Mathlib.Nat.{eq-zero-or-pos}
 use native.Mathlib.Omega.{arith}
 use borrow.Author.Count.{below-none, below-more}
-use borrow.Author.Tests.{ne-eqb}
 use lib.ListN.{length, take, getD, length-take}
 use lib.Seq.{take-take}
 use Rattle.rules.specs.Answers.{readOne}
-use Rattle.stream_rules.specs.Heads.{markOf, needs, wait, headOf, head}
+use Rattle.stream_rules.specs.Heads.{isSpe, markOf, needs, wait, headOf, head}
 use Rattle.stream_laws.proofs.Lists.{front-at}
 use Rattle.stream_laws.proofs.Course.{Course, waits, turns-bad, is-whole}
 use Rattle.stream_laws.proofs.PacketStarts.{Marks, needs-six, needs-longest, few-marks, no-mark, no-count, bytes-missing, all-there}
 
-module _ (family : ℕ) (spe : family ≡ 2 → ⊥) (bs : List ℕ) where
+module _ (family : ℕ) (spe : isSpe family ≡ true) (bs : List ℕ) where
   -- A front has the marks and the count of the whole, as far as it goes;
   front-marks : (m k : ℕ) → k ≤ length (take m bs) → Marks family k bs → Marks family k (take m bs)
   front-marks m k within marks i h = front-at bs m i (omega arith) ∙ marks i h
@@ -83,7 +83,7 @@ module _ (family : ℕ) (spe : family ≡ 2 → ⊥) (bs : List ℕ) where
   course-there : 4 ≤ length bs → Marks family 3 bs → 0 < needs family (getD bs 3 0) → needs family (getD bs 3 0) ≤ length bs → Course family bs
   course-there there marks some enough =
       let n = needs family (getD bs 3 0) in
-      is-whole n (rw (ne-eqb family 2 spe))
+      is-whole n (rw spe)
       record {
         some = some;
         there = enough;

@@ -15,14 +15,15 @@ use borrow.Author.Tests.{eq-eqb, ne-eqb, lt-ltb, le-ltb, le-leb}
 use Rattle.rules.specs.Bytes.{total}
 use Rattle.rules.specs.Codes.{packet, isAck, isCommand}
 use Rattle.rules.specs.Status.{dataOf, isStatus, statusFrame}
-use Rattle.rules.specs.Answers.{readOne, readFamily1, readFamily3, noFamily}
+use Rattle.rules.specs.Answers.{readOne, readFamily1, readFamily3}
 use Rattle.rules.specs.declared.Frame.{Frame}
-use Rattle.rules.specs.declared.Reading.the-variants.{Good, Refused}
+use Rattle.rules.specs.declared.Reading.the-variants.{Good}
 use Rattle.frame_laws.proofs.Bytes.{tests, same-eq, cond-cases}
-use Rattle.stream_rules.specs.Heads.{longest, markOf, needs, spe-undecided, undecided, wait, bad, good, headOf, head}
+use Rattle.stream_rules.specs.Heads.{isSpe, longest, markOf, needs, spe-undecided, undecided, wait, bad, good, headOf, head}
 use Rattle.stream_laws.specs.Settled.{spe-settled, settled}
 use Rattle.stream_laws.proofs.Lists.{every-at, fails-at, front-at, front-and-rest}
 use Rattle.stream_laws.proofs.Course.{passed, headOf-bad}
+use Rattle.stream_laws.proofs.Numbers.{spe-cases}
 
 -- Three marks, a count, and as many bytes as it needs:
 record Framed (family : ℕ) (bs : List ℕ) : Type 0 where
@@ -63,19 +64,12 @@ command-framed bs f e =
     let is-good = passed (isCommand bs) _ _ f e .0 in
     packet-framed 3 (getD bs 4 0) bs (same-eq bs _ (search tests))
 
-good-framed : (family : ℕ) (bs : List ℕ) (f : Frame) → (family ≡ 2 → ⊥) → readOne family bs ≡ Good f → Framed family bs
-unfolding readOne
+good-framed : (family : ℕ) (bs : List ℕ) (f : Frame) → isSpe family ≡ true → readOne family bs ≡ Good f → Framed family bs
 good-framed family bs f spe e =
-    elim (ℕ-discrete family 1) [
-      | yes one ↦ rw one (reply-framed bs f (rw one at e))
-      | no other ↦ elim (ℕ-discrete family 3) [
-        | yes three ↦ rw three (command-framed bs f (rw three at e))
-        | no none ↦
-            let refused : Refused noFamily ≡ Good f = rw (ne-eqb family 1 other, ne-eqb family 2 spe, ne-eqb family 3 none) at e in
-            let z : _≡_ {A = ℕ} 0 1 = cc in
-            absurd (omega arith)
-      ]
-    ]
+    ⊎-elim
+    (λ one. rw one (reply-framed bs f (rw one at e)))
+    (λ three. rw three (command-framed bs f (rw three at e)))
+    (spe-cases family spe)
 
 -- A count needs no bytes or at least six, and at most as many as the longest frame has.
 pub needs-six : (family count : ℕ) → 0 < needs family count → 6 ≤ needs family count
@@ -87,9 +81,9 @@ needs-six family count = by-tests (eqb count 0x01) (eqb family 1 && eqb count 0x
     by-tests false false h = absurd (omega arith)
 
 pub needs-longest : (family count : ℕ) → needs family count ≤ longest family
-needs-longest family count = by-tests (eqb count 0x01) (eqb family 1) (eqb count 0x43) (eqb family 2)
+needs-longest family count = by-tests (eqb count 0x01) (eqb family 1) (eqb count 0x43) (eqb family 3)
   where
-    by-tests : (a b c d : Bool) → cond a 6 (cond (b && c) 75 0) ≤ cond b 75 (cond d 134 6)
+    by-tests : (a b c d : Bool) → cond a 6 (cond (b && c) 75 0) ≤ cond b 75 (cond d 6 134)
     by-tests true true c d = lit≤ tt
     by-tests true false c true = lit≤ tt
     by-tests true false c false = lit≤ tt
@@ -129,7 +123,7 @@ three-marks family bs m0 m1 m2 (suc zero) h = m1
 three-marks family bs m0 m1 m2 (suc (suc zero)) h = m2
 three-marks family bs m0 m1 m2 (suc (suc (suc i))) h = absurd (omega arith)
 
-module _ (family : ℕ) (spe : family ≡ 2 → ⊥) (bs : List ℕ) where
+module _ (family : ℕ) (spe : isSpe family ≡ true) (bs : List ℕ) where
   abbrev needed : ℕ
   needed = needs family (getD bs 3 0)
 
@@ -148,11 +142,11 @@ module _ (family : ℕ) (spe : family ≡ 2 → ⊥) (bs : List ℕ) where
   -- the head and its settling, by the definitions for these families
   head-by : (b : Bool) → spe-undecided family bs ≡ b → head family bs ≡ cond b wait (headOf needed (readOne family (take needed bs)))
   unfolding head undecided
-  head-by b e = rw (ne-eqb family 2 spe, e)
+  head-by b e = rw (spe, e)
 
   settled-by : settled family bs ≡ spe-settled family bs
   unfolding settled
-  settled-by = rw (ne-eqb family 2 spe)
+  settled-by = rw spe
 
   -- a decided start is bad where no front of it is a good frame
   decided-bad : spe-undecided family bs ≡ false → ((n : ℕ) (f : Frame) → readOne family (take n bs) ≡ Good f → ⊥) → head family bs ≡ bad

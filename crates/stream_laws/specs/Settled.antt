@@ -6,7 +6,7 @@ use mathlib.Core.Bool.{cond, not}
 use mathlib.Core.List.{List}
 use lib.Dec.{eqb, leb}
 use lib.ListN.{length, drop, getD}
-use Rattle.stream_rules.specs.Heads.{markOf, needs, payloadRun}
+use Rattle.stream_rules.specs.Heads.{isSpe, markOf, needs, payloadRun}
 use Rattle.rules.specs.Sentences.{longestPayload}
 
 -- the first byte that is no mark, or a count that is not allowed, or as many bytes as the count needs
@@ -27,7 +27,7 @@ sentence-settled bs =
     (length (payloadRun (drop 1 bs)) + 2)))
 
 unfoldable pub settled : ℕ → List ℕ → ℕ
-settled family bs = cond (eqb family 2) (sentence-settled bs) (spe-settled family bs)
+settled family bs = cond (isSpe family) (spe-settled family bs) (sentence-settled bs)
 
 -- Of the first k starts of a list, how far the bytes reach that settle them.
 unfoldable pub reach : ℕ → ℕ → List ℕ → ℕ

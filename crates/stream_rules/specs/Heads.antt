@@ -9,22 +9,27 @@ use Rattle.rules.specs.Bytes.{every}
 use Rattle.rules.specs.Codes.{packetLength}
 use Rattle.rules.specs.Status.{reportLength}
 use Rattle.rules.specs.Sentences.{longestPayload, longestSentence, isPayloadByte}
-use Rattle.rules.specs.Answers.{readOne}
+use Rattle.rules.specs.Answers.{replies, commands, readOne}
 use Rattle.rules.specs.declared.Frame.{Frame}
 use Rattle.rules.specs.declared.Reading.{Reading}
 use Rattle.rules.specs.declared.Reading.the-variants.{Good, Refused}
 
--- The longest frame: 75 bytes of an SPE reply, 134 of a sentence, 6 of a command.
+-- Families 1 and 3 are SPE packets: they go by marks and a count. Family 2 is sentences. (What follows says something of
+-- every number. One that is no family goes with family 2 here, and whoever reads refuses it before that can matter.)
+abbrev pub isSpe : ℕ → Bool
+isSpe family = eqb family replies || eqb family commands
+
+-- The longest frame: 75 bytes of an SPE reply, 6 of a command, 134 of a sentence.
 abbrev pub longest : ℕ → ℕ
-longest family = cond (eqb family 1) reportLength (cond (eqb family 2) longestSentence packetLength)
+longest family = cond (eqb family replies) reportLength (cond (eqb family commands) packetLength longestSentence)
 
 -- An SPE start is undecided while there are fewer than four bytes that match the three marks as far as they go, or three
 -- marks and an allowed count with fewer bytes than that count needs. A count that is not allowed needs none.
 abbrev pub markOf : ℕ → ℕ
-markOf family = cond (eqb family 3) 0x55 0xAA
+markOf family = cond (eqb family commands) 0x55 0xAA
 
 abbrev pub needs : ℕ → ℕ → ℕ
-needs family count = cond (eqb count 0x01) packetLength (cond (eqb family 1 && eqb count 0x43) reportLength 0)
+needs family count = cond (eqb count 0x01) packetLength (cond (eqb family replies && eqb count 0x43) reportLength 0)
 
 unfoldable pub spe-undecided : ℕ → List ℕ → Bool
 spe-undecided family bs =
@@ -46,12 +51,12 @@ sentence-undecided [] = true
 sentence-undecided (b ∷ bs) = eqb b (code "$") && leb (length (payloadRun bs)) longestPayload && openEnd (drop (length (payloadRun bs)) bs)
 
 unfoldable pub undecided : ℕ → List ℕ → Bool
-undecided family bs = cond (eqb family 2) (sentence-undecided bs) (spe-undecided family bs)
+undecided family bs = cond (isSpe family) (spe-undecided family bs) (sentence-undecided bs)
 
 -- How long a frame at the head would be: as long as its count needs, or its payload with `$`, `*` and four digits. A
 -- count that is not allowed makes it 0, and no bytes are no frame.
 abbrev pub lengthAt : ℕ → List ℕ → ℕ
-lengthAt family bs = cond (eqb family 2) (length (payloadRun (drop 1 bs)) + 6) (needs family (getD bs 3 0))
+lengthAt family bs = cond (isSpe family) (needs family (getD bs 3 0)) (length (payloadRun (drop 1 bs)) + 6)
 
 -- the head of a list: undecided, bad, or a good frame with its length
 pub data Head : Type 0 where

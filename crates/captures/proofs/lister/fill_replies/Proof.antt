@@ -2,7 +2,7 @@
 -- are to come. The measure is what is left of the capture.
 -- Assumes nothing.
 use Prim.Native.Nat.{ℕ, _+_, _-_, _≤_}
-use mathlib.Core.Path.{_≡_, sym, ap, _∙_}
+use mathlib.Core.Path.{_≡_, refl, sym, ap, _∙_}
 use native.Mathlib.Omega.{arith}
 use borrow.Author.Needs.{needs}
 use lib.ListN.{length, drop}
@@ -69,7 +69,7 @@ loop-again : tie.Need-loop-again Inv-loop μ-loop
 loop-again c =
     let a = c .before .before .before .before .before .before .args in
     let loop = c .before .before .before .loop in
-    passed _ _ _ _ _ _ (loop .inv) _ (over-mark 1 (λ e. omega (arith, e)) (a .capture .now) (loop .at) (omega arith) (c .if1 .taken))
+    passed _ _ _ _ _ _ (loop .inv) _ (over-mark 1 refl (a .capture .now) (loop .at) (omega arith) (c .if1 .taken))
 
 sub-reply-size : tie.Need-sub-reply-size Inv-loop μ-loop
 sub-reply-size c = c .before .before .before .loop .inv .within
@@ -94,7 +94,7 @@ loop-again-2 c =
     let a = start (c .before) .args in
     let loop = c .before .before .before .before .before .before .loop in
     passed _ _ _ _ _ _ (loop .inv) _
-    (over-four 1 (λ e. omega (arith, e)) (a .capture .now) (loop .at) (omega arith) (c .before .before .before .if1 .left) (sym (c .if2 .taken) ∙ is-size (c .before)))
+    (over-four 1 refl (a .capture .now) (loop .at) (omega arith) (c .before .before .before .if1 .left) (sym (c .if2 .taken) ∙ is-size (c .before)))
 
 note-requires : tie.Need-note-requires Inv-loop μ-loop
 note-requires c κs = omega (arith, c .before .before .before .before .before .before .before .loop .inv .within, start (c .before .before) .pre)

@@ -2,6 +2,7 @@
 -- tells, nor from there on to where the marks end.
 -- Assumes nothing.
 use Prim.Native.Nat.{_+_}
+use mathlib.Core.Path.{refl}
 use native.Mathlib.Omega.{arith}
 use Rattle.captures.proofs.Skips.{over-mark, over-four, further}
 use Rattle.captures.proofs.steps.next_command.Statement.{statement}
@@ -24,7 +25,7 @@ returns c =
     let start = c .before .before .before .before in
     let a = start .args in (
       omega (arith, c .past-marks .ensures .on),
-      further 3 (a .s .now) (a .from) (a .from + 4) _ (over-four 3 (λ e. omega (arith, e)) (a .s .now) (a .from) (omega (arith, start .pre .0)) (c .before .if1 .taken) (start .pre .1)) (c .past-marks .ensures),
+      further 3 (a .s .now) (a .from) (a .from + 4) _ (over-four 3 refl (a .s .now) (a .from) (omega (arith, start .pre .0)) (c .before .if1 .taken) (start .pre .1)) (c .past-marks .ensures),
     )
 
 add-past-marks-2 : tie.Need-add-past-marks-2
@@ -38,7 +39,7 @@ returns-2 c =
     let start = c .before .before .before .before in
     let a = start .args in (
       omega (arith, c .past-marks2 .ensures .on),
-      further 3 (a .s .now) (a .from) (a .from + 1) _ (over-mark 3 (λ e. omega (arith, e)) (a .s .now) (a .from) (omega (arith, start .pre .0)) (c .before .if1 .left)) (c .past-marks2 .ensures),
+      further 3 (a .s .now) (a .from) (a .from + 1) _ (over-mark 3 refl (a .s .now) (a .from) (omega (arith, start .pre .0)) (c .before .if1 .left)) (c .past-marks2 .ensures),
     )
 
 pub next-command-spec : {M : Type 1} → statement M

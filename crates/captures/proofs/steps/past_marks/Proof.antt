@@ -2,6 +2,7 @@
 -- `at`. The measure is what is left of the bytes.
 -- Assumes nothing.
 use Prim.Native.Nat.{_+_, _-_}
+use mathlib.Core.Path.{refl}
 use native.Mathlib.Omega.{arith}
 use lib.ListN.{length}
 use Rattle.captures.specs.Sizes.{Passes}
@@ -40,7 +41,7 @@ loop-again : tie.Need-loop-again Inv-loop μ-loop
 loop-again c =
     let a = c .before .before .before .before .args in
     let loop = c .before .before .before .loop in
-    further 3 (a .s .now) (a .from) (loop .at) (loop .at + 1) (loop .inv) (over-mark 3 (λ e. omega (arith, e)) (a .s .now) (loop .at) (omega arith) (c .if1 .left))
+    further 3 (a .s .now) (a .from) (loop .at) (loop .at + 1) (loop .inv) (over-mark 3 refl (a .s .now) (loop .at) (omega arith) (c .if1 .left))
 
 returns-2 : tie.Need-returns-2 Inv-loop μ-loop
 returns-2 c = c .before .loop .inv

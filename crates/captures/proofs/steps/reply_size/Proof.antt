@@ -41,7 +41,7 @@ returns-3 : tie.Need-returns-3
 returns-3 c = no-ack _ (omega arith) (c .before .before .before .if2 .taken) (sym (c .before .is-ack .ensures) ∙ c .if3 .left)
 
 returns-4 : tie.Need-returns-4
-returns-4 c = not-allowed _ 1 (λ p. omega (arith, p)) (needs-none 1 _ (c .before .if2 .left) (λ one. c .if4 .taken))
+returns-4 c = not-allowed _ 1 refl (needs-none 1 _ (c .before .if2 .left) (λ one. c .if4 .taken))
 
 returns-5 : tie.Need-returns-5
 returns-5 c = size-none 1 _ (not-declared 1 _ 75 (needs-report 1 _ refl (c .before .if4 .left)) (c .if5 .taken))

@@ -8,10 +8,10 @@ returns : tie.Need-returns
 returns c = rw (eq-eqb (c .before .args .family) 1 (c .if1 .taken))
 
 returns-2 : tie.Need-returns-2
-returns-2 c = rw (ne-eqb (c .before .before .args .family) 1 (c .before .if1 .left), eq-eqb (c .before .before .args .family) 2 (c .if2 .taken))
+returns-2 c = rw (ne-eqb (c .before .before .args .family) 1 (c .before .if1 .left), eq-eqb (c .before .before .args .family) 3 (c .if2 .taken))
 
 returns-3 : tie.Need-returns-3
-returns-3 c = rw (ne-eqb (c .before .before .args .family) 1 (c .before .if1 .left), ne-eqb (c .before .before .args .family) 2 (c .if2 .left))
+returns-3 c = rw (ne-eqb (c .before .before .args .family) 1 (c .before .if1 .left), ne-eqb (c .before .before .args .family) 3 (c .if2 .left))
 
 pub longest-frame-spec : {M : Type 1} → statement M
 longest-frame-spec = tie.close (tie.spec returns returns-2 returns-3)
