@@ -61,8 +61,8 @@ fn ruled_out(family: u8, s: &[u8]) -> bool
 }
 
 // A start that is not passed over: its place, the size of the frame that may stand there, and how far the
-// bytes reach that settled the starts before it, exact where that is behind the six bytes that any frame
-// there has. The size is 0 where the start is undecided, or the bytes end.
+// bytes reach that settled the starts before it, exact where that is behind the bytes that even the shortest
+// frame there has. The size is 0 where the start is undecided, or the bytes end.
 pub struct Stop {
     pub at: usize,
     pub size: usize,

@@ -56,7 +56,7 @@ enough : (c : tie.After-known-told Inv-loop μ-loop) → c .before .size .given 
 enough c = whole-there (c .before .before .before .before .before .before .before .before .before .before .before .before .args .family) (c .before .before .before .before .before .before .before .before .before .before .before .before .args .s .now) (c .before .before .before .before .before .before .before .before .before .loop .at) _ (to-read c) .1
 
 six : (c : tie.After-known-told Inv-loop μ-loop) → 6 ≤ c .before .size .given .0 .0
-six c = whole-size (c .before .before .before .before .before .before .before .before .before .before .before .before .args .family) (drop (c .before .before .before .before .before .before .before .before .before .loop .at) (c .before .before .before .before .before .before .before .before .before .before .before .before .args .s .now)) _ (whole-there (c .before .before .before .before .before .before .before .before .before .before .before .before .args .family) (c .before .before .before .before .before .before .before .before .before .before .before .before .args .s .now) (c .before .before .before .before .before .before .before .before .before .loop .at) _ (to-read c) .0) (sym (here (c .before .before .before)) ∙ c .before .size .given .1)
+six c = whole-size (c .before .before .before .before .before .before .before .before .before .before .before .before .args .family) (c .before .before .before .before .before .before .before .before .before .before .before .before .pre) (drop (c .before .before .before .before .before .before .before .before .before .loop .at) (c .before .before .before .before .before .before .before .before .before .before .before .before .args .s .now)) _ (whole-there (c .before .before .before .before .before .before .before .before .before .before .before .before .args .family) (c .before .before .before .before .before .before .before .before .before .before .before .before .args .s .now) (c .before .before .before .before .before .before .before .before .before .loop .at) _ (to-read c) .0) (sym (here (c .before .before .before)) ∙ c .before .size .given .1)
 
 -- or a bad start
 broken : (c : tie.After-enum-told2 Inv-loop μ-loop) → BadBy (c .before .before .before .before .before .before .before .before .before .before .before .args .family) (drop (c .before .before .before .before .before .before .before .before .loop .at) (c .before .before .before .before .before .before .before .before .before .before .before .args .s .now)) 4
