@@ -7,6 +7,7 @@ use rules::PACKET_LENGTH;
 use rules::REPORT_COUNT;
 use rules::REPORT_LENGTH;
 use rules::SHORTEST_SENTENCE;
+use spe::ends_report;
 use spe::is_ack;
 use spe::is_command;
 use spe::is_status;
@@ -55,7 +56,7 @@ pub(crate) fn reply_size(s: &[u8]) -> usize
         return 0;
     }
     // nearly all that only begin as a report are turned away by its end
-    if !((s[73] == 0x0D) & (s[74] == 0x0A)) {
+    if !ends_report(s) {
         return 0;
     }
     if is_status(&s[..REPORT_LENGTH]) {

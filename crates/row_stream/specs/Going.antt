@@ -9,7 +9,7 @@ use Rattle.rules.specs.Bytes.{part, every}
 use Rattle.rules.specs.Sentences.{longestPayload, isPayloadByte}
 use Rattle.rules.specs.Answers.{isFamily}
 use Rattle.stream_rules.specs.Heads.{longest}
-use Rattle.starts.specs.Begins.{beginsReport}
+use Rattle.spe.specs.Ends.{beginsReport}
 use Rattle.search.specs.Sought.{soughtIn}
 use Rattle.search.specs.declared.Sought.the-variants.{Waiting}
 use Rattle.stream_rules.specs.Streams.{placeCount}

@@ -7,7 +7,7 @@ use lib.Dec.{leb}
 use lib.IntN.{ℤ}
 use lib.ListN.{length}
 use Rattle.stream_rules.specs.Streams.{wrap}
-use Rattle.starts.specs.Begins.{beginsReport}
+use Rattle.spe.specs.Ends.{beginsReport}
 use Rattle.rows.specs.Rows.{moreRow, longestRow, row, rowWithout, front}
 use Rattle.search.specs.Sought.{soughtIn}
 use Rattle.search.specs.declared.Sought.{Sought}

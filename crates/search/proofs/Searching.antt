@@ -14,7 +14,7 @@ use Rattle.stream_rules.specs.Rule.{Look, byLook}
 use Rattle.stream_laws.specs.Settled.{reach}
 use Rattle.stream_laws.proofs.Heads.{shortest-of-all, GoodHead, good-head}
 use Rattle.stream_laws.proofs.PacketStarts.{Marks, bytes-missing, all-there}
-use Rattle.starts.proofs.Beginning.{Begun}
+use Rattle.spe.proofs.Beginning.{Begun}
 use Rattle.stream_laws.proofs.Families.{facts}
 use Rattle.stream_laws.proofs.Starts.{BadBefore, look-at-good, look-at-wait, look-at-end}
 use Rattle.search.specs.Sought.{SameFor, soughtIn, Stops}

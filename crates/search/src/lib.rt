@@ -9,6 +9,7 @@ use rules::REPLIES;
 use rules::REPORT_LENGTH;
 use rules::Reading;
 use rules::SENTENCES;
+use spe::ends_report;
 use spe::is_ack;
 use spe::is_command;
 use starts::Seen;
@@ -52,7 +53,7 @@ fn ruled_out(family: u8, s: &[u8]) -> bool
     ensures { λ r. ⌜ (r ≡ true → isGood (readOne family (now (s .entry))) ≡ false) ⌝ }
 {
     if s.len() == REPORT_LENGTH {
-        return !((s[73] == 0x0D) & (s[74] == 0x0A));
+        return !ends_report(s);
     }
     if family == COMMANDS {
         return !is_command(s);
