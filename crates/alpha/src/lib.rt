@@ -7,6 +7,7 @@ use rules::Frame;
 use rules::LONGEST_SENTENCE;
 use rules::NOT_GOOD;
 use rules::Reading;
+use rules::SHORTEST_SENTENCE;
 ghost use mathlib.Core.Path.{_≡_};
 ghost use mathlib.Core.Bool.{true};
 ghost use Prim.Native.Nat.{_≤_};
@@ -51,7 +52,7 @@ fn is_framed(s: &[u8]) -> bool
     ensures { λ r. ⌜ r ≡ isSentence (now (s .entry)) ⌝ }
 {
     let n = s.len();
-    if n < 11 {
+    if n < SHORTEST_SENTENCE {
         return false;
     }
     if LONGEST_SENTENCE < n {

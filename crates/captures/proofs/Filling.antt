@@ -10,7 +10,7 @@ use native.Mathlib.Omega.{arith}
 use lib.ListN.{length, take, drop, getD, set, length-set, length-drop, length-map}
 use lib.Seq.{take-all, getD-drop, drop-drop}
 use Rattle.rules.specs.declared.Frame.{Frame}
-use Rattle.stream_rules.specs.Heads.{Head, wait, bad, good, head}
+use Rattle.stream_rules.specs.Heads.{shortest, Head, wait, bad, good, head}
 use Rattle.stream_rules.specs.Rule.{Found, rule, byHead}
 use Rattle.stream_rules.specs.Lister.{frames, startsOf}
 use Rattle.stream_laws.proofs.Heads.{good-head}
@@ -123,7 +123,7 @@ module _ (family : ℕ) (bs out₀ out : List ℕ) (at n : ℕ) (filled : Filled
       }
 
 -- where fewer bytes are left than the shortest frame has, the list is filled
-pub ends : (family : ℕ) (bs out₀ out : List ℕ) (at n : ℕ) → Filled family bs out₀ out at n → length bs < at + 6 → Fills family bs out₀ n out
+pub ends : (family : ℕ) (bs out₀ out : List ℕ) (at n : ℕ) → Filled family bs out₀ out at n → length bs < at + shortest family → Fills family bs out₀ n out
 ends family bs out₀ out at n filled short =
     let end : at + (length bs - at) ≡ length bs = omega (arith, filled .within) in
     let past = over family bs out₀ out at n filled (length bs - at) (omega (arith, end))

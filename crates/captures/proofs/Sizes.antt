@@ -11,16 +11,11 @@ use Rattle.rules.specs.Answers.{isGood, readOne}
 use Rattle.rules.specs.declared.Frame.{Frame}
 use Rattle.rules.specs.declared.Reading.{Reading}
 use Rattle.rules.specs.declared.Reading.the-variants.{Good, Refused}
-use Rattle.stream_rules.specs.Heads.{lengthAt, Head, wait, bad, good, head}
+use Rattle.stream_rules.specs.Heads.{shortest, lengthAt, Head, wait, bad, good, head}
 use Rattle.stream_rules.specs.Rule.{byHead}
-use Rattle.stream_laws.proofs.Heads.{complete, GoodHead, good-head}
-use Rattle.starts.proofs.Seeing.{at-least-six}
+use Rattle.stream_laws.proofs.Heads.{complete, good-head}
 use Rattle.stream_laws.proofs.Starts.{NotGood}
 use Rattle.captures.specs.Sizes.{sizeAt}
-
--- no frame has fewer than six bytes
-pub six : (family : ℕ) (bs : List ℕ) (n : ℕ) (f : Frame) → GoodHead family bs n f → 6 ≤ n
-six family bs n f g = omega (arith, g .declared, at-least-six family bs (omega (arith, g .some, g .declared)))
 
 module _ (family : ℕ) (bs : List ℕ) where
   -- no good frame: 0
@@ -32,9 +27,9 @@ module _ (family : ℕ) (bs : List ℕ) where
       by bad never = refl
       by (good n f) never = absurd (never n f refl)
 
-  -- fewer than six bytes are no frame, and neither are fewer than the bytes declare
-  pub too-short : length bs < 6 → NotGood (head family bs)
-  too-short short n f e = let g = good-head family bs n f e in omega (arith, six family bs n f g, g .there)
+  -- fewer bytes than the shortest frame has are no frame, and neither are fewer than the bytes declare
+  pub too-short : length bs < shortest family → NotGood (head family bs)
+  too-short short n f e = let g = good-head family bs n f e in omega (arith, g .long, g .there)
 
   pub not-declared : (n : ℕ) → lengthAt family bs ≡ n → length bs < n → NotGood (head family bs)
   not-declared n declared short m f e = let g = good-head family bs m f e in omega (arith, g .declared, g .there)

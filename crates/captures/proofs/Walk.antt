@@ -9,16 +9,15 @@ use native.Mathlib.Omega.{arith}
 use lib.ListN.{length, drop, length-drop, drop-of-length-le}
 use lib.Seq.{drop-drop}
 use Rattle.rules.specs.declared.Frame.{Frame}
-use Rattle.stream_rules.specs.Heads.{longest, good, head, atClose}
+use Rattle.stream_rules.specs.Heads.{shortestFrame, longest, good, head, atClose}
 use Rattle.stream_rules.specs.Rule.{Found, rule, Look, ready, waiting, look, byLook}
 use Rattle.stream_rules.specs.Lister.{frames}
 use Rattle.stream_laws.proofs.Looks.{found, drains, rule-drains, FrameFirst, look-ready, closed-good}
-use Rattle.stream_laws.proofs.Heads.{GoodHead, good-head}
+use Rattle.stream_laws.proofs.Heads.{shortest-of-all, GoodHead, good-head}
 use Rattle.stream_laws.proofs.Families.{facts}
 use Rattle.search.specs.Sought.{firstFrom}
 use Rattle.search.specs.declared.First.{First}
 use Rattle.search.specs.declared.First.the-variants.{At, Nothing}
-use Rattle.captures.proofs.Sizes.{six}
 
 -- what is left to list from a place on
 abbrev pub left : ℕ → List ℕ → ℕ → List Found
@@ -29,7 +28,7 @@ pub record Next (family : ℕ) (bs : List ℕ) (at start size : ℕ) (f : Frame)
   pub skipped : ℕ
   pub place : start ≡ at + skipped
   pub some : 0 < size
-  pub six : 6 ≤ size
+  pub long : shortestFrame ≤ size
   pub there : start + size ≤ length bs
   pub lists : left family bs at ≡ found start skipped size f ∷ left family bs (start + size)
 
@@ -44,7 +43,7 @@ module _ (family : ℕ) (bs : List ℕ) (at : ℕ) where
         skipped = k;
         place = refl;
         some = whole .some;
-        six = six family (drop k (drop at bs)) n f whole;
+        long = omega (arith, whole .long, shortest-of-all family);
         there = omega (arith, whole .some, whole .there, length-drop k (drop at bs), length-drop at bs);
         lists = rule-drains (head family) (longest family) (facts family) (drop at bs) at 0
             ∙ ap (drains (head family) at 0) e
@@ -79,19 +78,19 @@ pub at-end : (family : ℕ) (bs : List ℕ) (at : ℕ) → length bs ≤ at → 
 unfolding rule
 at-end family bs at h = ap (rule (head family) 0 at 0) (drop-of-length-le bs h)
 
--- So there are at most a sixth as many frames left as bytes.
+-- Each of the frames left has at least as many bytes as the shortest, and together they have no more than are left.
 module _ (family : ℕ) (bs : List ℕ) where
-  step : (fuel at : ℕ) → ((next-at : ℕ) → length bs < next-at + fuel → 6 * length (left family bs next-at) ≤ length bs - next-at)
-      → length bs < at + suc fuel → (x : First) → firstFrom family bs at ≡ x → 6 * length (left family bs at) ≤ length bs - at
+  step : (fuel at : ℕ) → ((next-at : ℕ) → length bs < next-at + fuel → shortestFrame * length (left family bs next-at) ≤ length bs - next-at)
+      → length bs < at + suc fuel → (x : First) → firstFrom family bs at ≡ x → shortestFrame * length (left family bs at) ≤ length bs - at
   step fuel at more h Nothing e = rw (no-next family bs at e) (omega arith)
   step fuel at more h (At start size f) e =
       let n : Next family bs at start size f = next family bs at start size f e in
-      let rest : 6 * length (left family bs (start + size)) ≤ length bs - (start + size) = more (start + size) (omega (arith, n .place, n .some)) in
-      omega (arith, ap length (n .lists), rest, n .six, n .there, n .place)
+      let rest : shortestFrame * length (left family bs (start + size)) ≤ length bs - (start + size) = more (start + size) (omega (arith, n .place, n .some)) in
+      omega (arith, ap length (n .lists), rest, n .long, n .there, n .place)
 
-  from-there : (fuel at : ℕ) → length bs < at + fuel → 6 * length (left family bs at) ≤ length bs - at
+  from-there : (fuel at : ℕ) → length bs < at + fuel → shortestFrame * length (left family bs at) ≤ length bs - at
   from-there zero at h = rw (at-end family bs at (omega arith)) (omega arith)
   from-there (suc fuel) at h = step fuel at (from-there fuel) h (firstFrom family bs at) refl
 
-  pub few-frames : 6 * length (frames family bs) ≤ length bs
+  pub few-frames : shortestFrame * length (frames family bs) ≤ length bs
   few-frames = omega (arith, from-there (suc (length bs)) 0 (omega arith))

@@ -12,6 +12,7 @@ use rules::NO_ROOM;
 use rules::PACKET_LENGTH;
 use rules::REPLY_MARK;
 use rules::SENTENCES;
+use rules::SHORTEST_FRAME;
 use rules::TOO_LONG;
 use starts::is_family;
 use starts::payload_bytes;
@@ -36,7 +37,8 @@ fn note(starts: &mut [u32], n: usize, at: usize)
     }
 }
 
-// Fills in the starts of commands, as far as there are places, and gives how many there are.
+// Fills in the starts of commands, as far as there are places, and gives how many there are. An SPE packet with a code
+// is the shortest of its family: with fewer bytes left there is no frame.
 fn fill_commands(capture: &[u8], starts: &mut [u32]) -> usize
     requires { ⌜ length (now capture) ≤ longestCapture ⌝ }
     ensures { λ r. ⌜ Fills commands (now (capture .entry)) (now (starts .entry)) r (now (starts .exit)) ⌝ }
@@ -143,8 +145,8 @@ pub fn list_frames(family: u8, capture: &[u8], starts: &mut [u32]) -> Listed
     if LONGEST_CAPTURE < capture.len() {
         return Listed::Refused(TOO_LONG);
     }
-    // a frame has at least six bytes: here there is room, and one pass is enough
-    if capture.len() / 6 <= starts.len() {
+    // here there is room for as many frames as there can be, and one pass is enough
+    if capture.len() / SHORTEST_FRAME <= starts.len() {
         return Listed::Count(fill_starts(family, capture, starts));
     }
     if starts.len() < count_frames(family, capture) {

@@ -6,6 +6,8 @@ use rules::LONGEST_PAYLOAD;
 use rules::PACKET_LENGTH;
 use rules::REPORT_COUNT;
 use rules::REPORT_LENGTH;
+use rules::SHORTEST_SENTENCE;
+use spe::ends_report;
 use spe::is_ack;
 use spe::is_command;
 use spe::is_status;
@@ -54,7 +56,7 @@ pub(crate) fn reply_size(s: &[u8]) -> usize
         return 0;
     }
     // nearly all that only begin as a report are turned away by its end
-    if !((s[73] == 0x0D) & (s[74] == 0x0A)) {
+    if !ends_report(s) {
         return 0;
     }
     if is_status(&s[..REPORT_LENGTH]) {
@@ -63,12 +65,12 @@ pub(crate) fn reply_size(s: &[u8]) -> usize
     0
 }
 
-// False only where no good sentence starts, by what stands in its name's place: that begins with an A, and no
-// digit is below 0.
+// False only where no good sentence starts: too few bytes, or by what stands in its name's place, that begins with an
+// A, and no digit is below 0.
 pub(crate) fn may_be_sentence(s: &[u8]) -> bool
     ensures { λ r. ⌜ (r ≡ false → 0 ≡ sizeAt sentences (now (s .entry))) ⌝ }
 {
-    if s.len() < 6 {
+    if s.len() < SHORTEST_SENTENCE {
         return false;
     }
     if s[1] != b'A' {

@@ -6,17 +6,19 @@ use captures::next_frame;
 use rules::Reading;
 use std::num::wrapping_add_usize;
 use std::num::wrapping_sub_usize;
+use stream_rules::LONGEST_LIST;
 use stream_rules::Listed;
 ghost use mathlib.Core.Path.{_≡_};
 ghost use lib.ListN.{length};
+ghost use Rattle.stream_rules.specs.Lister.{longestList};
 ghost use Rattle.lines.specs.Lines.{Types};
 ghost use Rattle.listings.specs.Parts.{partTexts};
 
-// Room for as many starts as a capture can have frames, of six bytes each.
-fn starts_buffer() -> [u32; 10922]
-    ensures { λ r. ⌜ 10922 ≡ length r ⌝ }
+// Room for as many starts as a capture can have frames.
+fn starts_buffer() -> [u32; LONGEST_LIST]
+    ensures { λ r. ⌜ longestList ≡ length r ⌝ }
 {
-    [0; 10922]
+    [0; LONGEST_LIST]
 }
 
 // A line for each frame of a capture and one for the whole, or the refusal alone.

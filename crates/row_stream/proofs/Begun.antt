@@ -13,7 +13,7 @@ use Rattle.stream_rules.specs.Heads.{wait, head}
 use Rattle.frame_laws.proofs.Bytes.{every-append}
 use Rattle.stream_laws.proofs.Runs.{run, run-all}
 use Rattle.stream_laws.proofs.SentenceStarts.{payload-open}
-use Rattle.starts.proofs.Beginning.{begun, still-begun}
+use Rattle.spe.proofs.Beginning.{begun, still-begun}
 use Rattle.stream_laws.proofs.Jump.{drop-take}
 use Rattle.search.proofs.Stopping.{begins, stops-waiting}
 use Rattle.search.proofs.Searching.{waiting, begun-waits}

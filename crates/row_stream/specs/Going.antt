@@ -8,7 +8,7 @@ use lib.ListN.{length, take, getD}
 use Rattle.rules.specs.Bytes.{part, every}
 use Rattle.rules.specs.Sentences.{longestPayload, isPayloadByte}
 use Rattle.rules.specs.Status.{reportLength}
-use Rattle.starts.specs.Begins.{beginsReport}
+use Rattle.spe.specs.Ends.{beginsReport}
 use Rattle.search.specs.Sought.{soughtIn}
 use Rattle.search.specs.declared.Sought.the-variants.{Waiting}
 use Rattle.row_stream.specs.Short.{IsFew}

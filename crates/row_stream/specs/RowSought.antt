@@ -5,7 +5,7 @@ use mathlib.Core.Bool.{true}
 use mathlib.Core.List.{List}
 use lib.IntN.{ℤ}
 use Rattle.stream_rules.specs.Streams.{wrap}
-use Rattle.starts.specs.Begins.{beginsReport}
+use Rattle.spe.specs.Ends.{beginsReport}
 use Rattle.rows.specs.Rows.{moreRow, row, rowWithout, front}
 use Rattle.search.specs.declared.Sought.{Sought}
 use Rattle.search.specs.declared.Sought.the-variants.{Ready, Waiting}

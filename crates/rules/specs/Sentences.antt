@@ -27,9 +27,15 @@ sum1 bs = sum1From 0 bs
 abbrev pub sum2 : List ℕ → ℕ
 sum2 bs = sum2From 0 0 bs
 
--- A payload has at most 128 bytes, and with `$`, `*` and four digits a sentence has at most 134.
+-- A payload has 5 to 128 bytes, and with `$`, `*` and four digits a sentence has 11 to 134.
+abbrev pub shortestPayload : ℕ
+shortestPayload = 5
+
 abbrev pub longestPayload : ℕ
 longestPayload = 128
+
+abbrev pub shortestSentence : ℕ
+shortestSentence = shortestPayload + 6
 
 abbrev pub longestSentence : ℕ
 longestSentence = longestPayload + 6
@@ -47,7 +53,7 @@ abbrev pub isNamed : List ℕ → Bool
 isNamed p = same (take 3 p) (ascii "APA") && every isDigit (part 3 2 p) && nothingOrComma (drop 5 p)
 
 unfoldable pub isPayload : List ℕ → Bool
-isPayload p = between 5 longestPayload (length p) && every isPayloadByte p && isNamed p
+isPayload p = between shortestPayload longestPayload (length p) && every isPayloadByte p && isNamed p
 
 -- A frame is `$`, the payload, `*` and four uppercase hexadecimal digits that give sum2, then sum1.
 abbrev pub payloadOf : List ℕ → List ℕ

@@ -43,10 +43,15 @@ pub const REPORT_LENGTH: usize = 75;
 
 pub const DATA_LENGTH: usize = 67;
 
-// The longest payload of a sentence, and the longest sentence: with `$`, `*` and four digits.
+// The longest payload of a sentence, and the shortest and the longest sentence: with `$`, `*` and four digits.
 pub const LONGEST_PAYLOAD: usize = 128;
 
+pub const SHORTEST_SENTENCE: usize = 11;
+
 pub const LONGEST_SENTENCE: usize = 134;
+
+// No frame of any family has fewer bytes: the shortest is an SPE packet with a code.
+pub const SHORTEST_FRAME: usize = PACKET_LENGTH;
 
 // A status report of an SPE amplifier: fields 1 to 19 of document 01, of which 7 holds two. Letters
 // are kept as their ASCII bytes.

@@ -12,10 +12,9 @@ use Rattle.rules.specs.declared.Frame.{Frame}
 use Rattle.stream_rules.specs.Heads.{bad, good, headOf, head}
 use Rattle.stream_rules.specs.Rule.{Look, byLook}
 use Rattle.stream_laws.specs.Settled.{reach}
-use Rattle.stream_laws.proofs.Heads.{GoodHead, good-head}
+use Rattle.stream_laws.proofs.Heads.{shortest-of-all, GoodHead, good-head}
 use Rattle.stream_laws.proofs.PacketStarts.{Marks, bytes-missing, all-there}
-use Rattle.starts.proofs.Beginning.{Begun}
-use Rattle.starts.proofs.Seeing.{at-least-six}
+use Rattle.spe.proofs.Beginning.{Begun}
 use Rattle.stream_laws.proofs.Families.{facts}
 use Rattle.stream_laws.proofs.Starts.{BadBefore, look-at-good, look-at-wait, look-at-end}
 use Rattle.search.specs.Sought.{SameFor, soughtIn, Stops}
@@ -42,8 +41,7 @@ module _ (family : ℕ) (s : List ℕ) (p : Stop) (stops : Stops family s 0 0 p)
   unfolding reach
   counted f g =
       let same : SameFor (p .at) (p .reach) (reach family (p .at) s) = stops .walks .reaches refl in
-      let six = at-least-six family (drop (p .at) s) (omega (arith, g .some, g .declared)) in
-      omega (arith, same, six, g .declared, g .settles)
+      omega (arith, same, g .long, shortest-of-all family, g .settles)
 
   pub ready : (f : Frame) (r : ℕ) → head family (drop (p .at) s) ≡ good (p .size) f → r ≡ max (p .reach) (p .at + p .size)
       → Ready (record { start = p .at; length = p .size; reach = r; frame = f }) ≡ soughtIn family s

@@ -12,7 +12,7 @@ use native.Mathlib.Omega.{arith}
 use lib.ListN.{length, take, drop, length-drop}
 use lib.Seq.{drop-drop}
 use Rattle.rules.specs.Answers.{sentences, readOne}
-use Rattle.stream_rules.specs.Heads.{isSpe, markOf, wait, bad, headOf, head}
+use Rattle.stream_rules.specs.Heads.{isSpe, shortestFrame, markOf, wait, bad, headOf, head}
 use Rattle.stream_laws.specs.Settled.{settled, reach}
 use Rattle.stream_laws.proofs.Course.{headOf-decided}
 use Rattle.stream_laws.proofs.Heads.{settling}
@@ -62,7 +62,7 @@ module _ (family : ℕ) (bs : List ℕ) where
       (omega (arith, before, more), omega (arith, before, last, more))
 
   skips : (from far at on k : ℕ) → Walks family bs from far at on → at + k ≤ length bs
-      → ((j : ℕ) → j < k → BadBy family (drop (at + j) bs) (k + 6 - j)) → Walks family bs from far (at + k) on
+      → ((j : ℕ) → j < k → BadBy family (drop (at + j) bs) (k + shortestFrame - j)) → Walks family bs from far (at + k) on
   skips from far at on k w there each = record {
     ahead = omega (arith, w .ahead);
     within = λ h. there;
@@ -71,13 +71,13 @@ module _ (family : ℕ) (bs : List ℕ) where
       | no here ↦ let same : at + (j - at) ≡ j = omega arith in rw same at (each (j - at) (omega arith) .0)
     ];
     reaches = λ e.
-        let near = no-farther at k (k + 6) (λ j p. omega (arith, each j p .1)) in
+        let near = no-farther at k (k + shortestFrame) (λ j p. omega (arith, each j p .1)) in
         omega (arith, w .reaches e, near);
   }
 
   -- those of a bad start and of some behind it
-  pub passes-over : (from far at on k : ℕ) → Walks family bs from far at on → at + k ≤ length bs → BadBy family (drop at bs) (k + 6)
-      → ((j : ℕ) → 0 < j → j < k → BadBy family (drop j (drop at bs)) (k + 6 - j)) → Walks family bs from far (at + k) on
+  pub passes-over : (from far at on k : ℕ) → Walks family bs from far at on → at + k ≤ length bs → BadBy family (drop at bs) (k + shortestFrame)
+      → ((j : ℕ) → 0 < j → j < k → BadBy family (drop j (drop at bs)) (k + shortestFrame - j)) → Walks family bs from far (at + k) on
   passes-over from far at on k w there here behind =
       skips from far at on k w there
       (λ j p. elim (ℕ-discrete j 0) [
@@ -98,7 +98,7 @@ module _ (family : ℕ) (bs : List ℕ) where
 
   -- and of a bad start that is counted, with those behind it
   pub counts-and-passes : (from far at on next d k : ℕ) → Walks family bs from far at on → at + (k + 1) ≤ length bs → SettledBy family (drop at bs) d → next ≡ max on (at + d)
-      → ((j : ℕ) → 0 < j → j < k + 1 → BadBy family (drop j (drop at bs)) (k + 7 - j)) → Walks family bs from far (at + (k + 1)) next
+      → ((j : ℕ) → 0 < j → j < k + 1 → BadBy family (drop j (drop at bs)) (k + 1 + shortestFrame - j)) → Walks family bs from far (at + (k + 1)) next
   counts-and-passes from far at on next d k w there is-bad to behind =
       let same : at + 1 + k ≡ at + (k + 1) = omega arith in
       subst (λ (n : ℕ). Walks family bs from far n next) same

@@ -4,7 +4,7 @@ use mathlib.Core.Path.{_≡_}
 use mathlib.Core.List.{List}
 use lib.ListN.{length, take, drop, getD}
 use Rattle.rules.specs.Answers.{readOne}
-use Rattle.stream_rules.specs.Heads.{wait, bad, headOf, head, atClose}
+use Rattle.stream_rules.specs.Heads.{shortestFrame, wait, bad, headOf, head, atClose}
 use Rattle.stream_rules.specs.Rule.{look, byLook}
 use Rattle.stream_laws.specs.Settled.{settled, reach}
 use Rattle.search.specs.declared.Sought as SoughtType
@@ -20,10 +20,11 @@ pub record AtStop (family : ℕ) (bs : List ℕ) (r : Stop) : Type 0 where
   pub whole : (r .size ≡ 0 → ⊥)
       → (head family (drop (r .at) bs) ≡ headOf (r .size) (readOne family (take (r .size) (drop (r .at) bs)))) × (settled family (drop (r .at) bs) ≡ r .size)
 
--- Two counts of how far bytes reach are the same for a frame that starts here or further on: it has at least six bytes, is
--- settled by all of its own, and the further of the two counts; so what does not reach behind six makes no difference.
+-- Two counts of how far bytes reach are the same for a frame that starts here or further on: it has at least as many bytes
+-- as the shortest, is settled by all of its own, and the further of the two counts; so what does not reach behind the
+-- shortest makes no difference.
 abbrev pub SameFor : ℕ → ℕ → ℕ → Type 0
-SameFor at on far = max on (at + 6) ≡ max far (at + 6)
+SameFor at on far = max on (at + shortestFrame) ≡ max far (at + shortestFrame)
 
 -- A walk from a place on: the starts that it has passed are bad, and a count of how far the bytes reach that was right where it
 -- began, for frames from there on, is right where it has come to.

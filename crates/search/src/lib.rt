@@ -9,6 +9,7 @@ use rules::REPLIES;
 use rules::REPORT_LENGTH;
 use rules::Reading;
 use rules::SENTENCES;
+use spe::ends_report;
 use spe::is_ack;
 use spe::is_command;
 use starts::Seen;
@@ -52,7 +53,7 @@ fn ruled_out(family: u8, s: &[u8]) -> bool
     ensures { λ r. ⌜ (r ≡ true → isGood (readOne family (now (s .entry))) ≡ false) ⌝ }
 {
     if s.len() == REPORT_LENGTH {
-        return !((s[73] == 0x0D) & (s[74] == 0x0A));
+        return !ends_report(s);
     }
     if family == COMMANDS {
         return !is_command(s);
@@ -61,8 +62,8 @@ fn ruled_out(family: u8, s: &[u8]) -> bool
 }
 
 // A start that is not passed over: its place, the size of the frame that may stand there, and how far the
-// bytes reach that settled the starts before it, exact where that is behind the six bytes that any frame
-// there has. The size is 0 where the start is undecided, or the bytes end.
+// bytes reach that settled the starts before it, exact where that is behind the bytes that even the shortest
+// frame there has. The size is 0 where the start is undecided, or the bytes end.
 pub struct Stop {
     pub at: usize,
     pub size: usize,

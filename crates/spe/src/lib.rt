@@ -1,11 +1,14 @@
 // Reads one frame of an SPE amplifier: a reply of family 1, or a command of family 3. A frame is tested
 // as a whole, and only what a good one says is read; of a report also as numbers.
 mod codes;
+mod ends;
 mod packets;
 mod status;
 
 pub use codes::is_ack_code;
 pub use codes::is_code;
+pub use ends::begins_report;
+pub use ends::ends_report;
 pub use packets::is_ack;
 pub use packets::is_command;
 use rules::DATA_LENGTH;

@@ -1,8 +1,8 @@
 // The test of a status report as a whole, which reads no field: its frame, then its data. Its helpers leave
 // no loop early and join their tests by `&` and `|`, so that the compiler tests many bytes at once.
+use crate::ends::begins_report;
+use crate::ends::ends_report;
 use rules::DATA_LENGTH;
-use rules::REPLY_MARK;
-use rules::REPORT_COUNT;
 use rules::REPORT_LENGTH;
 use texts::sum;
 use texts::text;
@@ -21,13 +21,10 @@ fn is_report(s: &[u8]) -> bool
     if s.len() != REPORT_LENGTH {
         return false;
     }
-    if !((s[0] == REPLY_MARK)
-        & (s[1] == REPLY_MARK)
-        & (s[2] == REPLY_MARK)
-        & (s[3] == REPORT_COUNT)) {
+    if !begins_report(s) {
         return false;
     }
-    if !((s[73] == 0x0D) & (s[74] == 0x0A)) {
+    if !ends_report(s) {
         return false;
     }
     let sum = sum(text(s, 4, DATA_LENGTH));

@@ -1,4 +1,2 @@
--- `Starts` turns the laws of heads into what is seen.
--- `Beginning` has what the first bytes of a report say.
+-- `Seeing` turns the laws of heads into what is seen.
 pub mod Seeing
-pub mod Beginning

@@ -12,6 +12,7 @@ use native.Mathlib.Omega.{arith}
 use borrow.Author.Tests.{eq-eqb, ne-eqb, eqb-true, eqb-false, le-leb}
 use lib.Dec.{eqb, lit≤}
 use lib.ListN.{length, take, getD}
+use Rattle.rules.specs.Codes.{packetLength}
 use Rattle.rules.specs.Answers.{sentences, readOne}
 use Rattle.frame_laws.proofs.Bytes.{answer}
 use Rattle.stream_rules.specs.Heads.{isSpe, wait, bad, markOf, needs, lengthAt, undecided as waits, headOf, head}
@@ -104,28 +105,21 @@ module _ (family : ℕ) (bs : List ℕ) where
         eqb-true (settled family bs) size (h .1 .0) ∙ h .1 .1,
       )
 
-  -- No frame has fewer than six bytes: a count that is allowed needs six or more, and a sentence has six besides its payload.
-  pub at-least-six : 0 < lengthAt family bs → 6 ≤ lengthAt family bs
-  at-least-six = case (isSpe family)
-    where
-      case : (b : Bool) → 0 < cond b (needs family (getD bs 3 0)) (run bs + 6) → 6 ≤ cond b (needs family (getD bs 3 0)) (run bs + 6)
-      case true h = needs-six family (getD bs 3 0) h
-      case false h = omega arith
-
-  pub whole-size : (n : ℕ) → 0 < n → seen family bs ≡ Whole n → 6 ≤ n
-  unfolding seen
-  whole-size n some e =
-      let is : size ≡ n = is-whole (waits family bs) (eqb (settled family bs) size) size (settled family bs) n e .1 .1 in
-      omega (arith, is, at-least-six (omega (arith, is, some)))
-
 -- Of an SPE family: k marks and nothing more, k below four, is undecided; a start that fewer than six bytes settle is bad,
--- since no count needs so few; and the length is what the count needs.
+-- since no count needs so few; the length is what the count needs, and no whole frame is shorter than a packet with a code.
 module _ (family : ℕ) (spe : isSpe family ≡ true) (bs : List ℕ) where
   pub few : (k : ℕ) → length bs ≡ k → k < 4 → Marks family k bs → Undecided ≡ seen family bs
   few k e h m = undecided family bs (few-marks family spe bs (omega arith) (subst⁻¹ (λ (n : ℕ). Marks family n bs) e m))
 
   pub counted : lengthAt family bs ≡ needs family (getD bs 3 0)
   counted = rw spe
+
+  pub whole-size : (n : ℕ) → 0 < n → seen family bs ≡ Whole n → packetLength ≤ n
+  unfolding seen
+  whole-size n some e =
+      let size = lengthAt family bs in
+      let is : size ≡ n = is-whole (waits family bs) (eqb (settled family bs) size) size (settled family bs) n e .1 .1 in
+      omega (arith, is, counted, needs-six family (getD bs 3 0) (omega (arith, is, counted, some)))
 
   pub bad-packet : (d : ℕ) → 0 < d → d < 6 → (head family bs ≡ bad) × (settled family bs ≡ d) → Bad d ≡ seen family bs
   bad-packet d some low e =

@@ -7,7 +7,6 @@ pub use families::is_family;
 pub use families::is_spe;
 pub use heads::Seen;
 pub use heads::examine;
-pub use marks::begins_report;
 pub use marks::bytes_needed;
 pub use marks::is_payload;
 pub use marks::longest_frame;

@@ -1,5 +1,5 @@
-// What a start is known by: the mark of its family, what a count needs and the longest frame, the first bytes of a
-// report, and the payload bytes behind a dollar sign.
+// What a start is known by: the mark of its family, what a count needs and the longest frame, and the payload bytes
+// behind a dollar sign.
 use checksums::payload_byte;
 use rules::CODE_COUNT;
 use rules::COMMAND_MARK;
@@ -17,7 +17,6 @@ ghost use lib.ListN.{length};
 ghost use Rattle.rules.specs.Bytes.{every};
 ghost use Rattle.rules.specs.Sentences.{isPayloadByte};
 ghost use Rattle.stream_rules.specs.Heads.{markOf, needs, longest, payloadRun};
-ghost use Rattle.starts.specs.Begins.{beginsReport};
 
 // The mark of an SPE family.
 pub fn mark_of(family: u8) -> u8
@@ -54,16 +53,6 @@ pub fn longest_frame(family: u8) -> usize
         return PACKET_LENGTH;
     }
     LONGEST_SENTENCE
-}
-
-// Whether a report begins at the first byte: three marks of family 1, and the count 43.
-pub fn begins_report(s: &[u8]) -> bool
-    ensures { λ r. ⌜ r ≡ beginsReport (now (s .entry)) ⌝ }
-{
-    if s.len() < 4 {
-        return false;
-    }
-    (s[0] == REPLY_MARK) & (s[1] == REPLY_MARK) & (s[2] == REPLY_MARK) & (s[3] == REPORT_COUNT)
 }
 
 // Whether a block of 16 bytes is all payload bytes. No byte ends the loop, so that it can be compiled

@@ -4,16 +4,19 @@
 -- Assumes nothing.
 use Prim.Native.Nat.{ℕ, _<_, _≤_}
 use mathlib.Core.Path.{_≡_, sym, ap, _∙_}
+use mathlib.Core.Bool.{Bool, true, false, cond}
 use mathlib.Core.List.{List, [], _++_}
 use mathlib.Core.Logic.{_⊎_, ⊎-elim}
 use native.Mathlib.Decide.{decLt}
 use native.Mathlib.Omega.{arith}
 use lib.ListN.{length, take}
 use lib.Seq.{take-length, take-append-seam}
+use Rattle.rules.specs.Codes.{packetLength}
+use Rattle.rules.specs.Sentences.{shortestSentence}
 use Rattle.rules.specs.Answers.{readOne}
 use Rattle.rules.specs.declared.Frame.{Frame}
 use Rattle.rules.specs.declared.Reading.the-variants.{Good}
-use Rattle.stream_rules.specs.Heads.{longest, lengthAt, Head, wait, bad, good, head}
+use Rattle.stream_rules.specs.Heads.{isSpe, shortest, shortestFrame, longest, lengthAt, Head, wait, bad, good, head}
 use Rattle.stream_laws.specs.Settled.{settled}
 use Rattle.stream_laws.proofs.Numbers.{Stranger, Number, of-packets, of-sentences, of-none, number, refuses, longest-same, settled-same, waits-too, bad-else}
 use Rattle.stream_laws.proofs.Course.{Settles, Course, waits, turns-bad, is-whole, headOf-decided, headOf-good}
@@ -56,6 +59,22 @@ complete family bs n f there = by (number family)
     by (of-packets is) e = Packet.complete family is bs n f there e
     by (of-sentences is) e = rw is (Sentence.complete bs n f there (rw is at e))
     by (of-none stranger) e = cc (refuses family stranger (take n bs))
+
+-- No good frame is shorter than its family's shortest, and none than the shortest of all families.
+at-least : (family : ℕ) (bs : List ℕ) (n : ℕ) (f : Frame) → n ≤ length bs → readOne family (take n bs) ≡ Good f → shortest family ≤ n
+at-least family bs n f there = by (number family)
+  where
+    by : Number family → readOne family (take n bs) ≡ Good f → shortest family ≤ n
+    by (of-packets is) e = rw is (Packet.at-least family is bs n f there e)
+    by (of-sentences is) e = rw is (Sentence.at-least bs n f there (rw is at e))
+    by (of-none stranger) e = let z : _≡_ {A = ℕ} 0 1 = cc (refuses family stranger (take n bs)) in absurd (omega arith)
+
+pub shortest-of-all : (family : ℕ) → shortestFrame ≤ shortest family
+shortest-of-all family = by (isSpe family)
+  where
+    by : (b : Bool) → shortestFrame ≤ cond b packetLength shortestSentence
+    by true = omega arith
+    by false = omega arith
 
 -- A bad start, or an undecided one, is no frame: none of its fronts is good.
 pub no-frame : (family : ℕ) (bs : List ℕ) → (head family bs ≡ bad) ⊎ (head family bs ≡ wait)
@@ -117,11 +136,12 @@ stays family bs cs decided =
       | no enough ↦ sym (rw front at (k .after (length bs) (omega arith)))
     ]
 
--- What a good head says: the frame has as many bytes as the start declares, all of them there and no more than the
--- longest frame has; it is what the reader of one frame gives for them, and they are what settled it.
+-- What a good head says: the frame has as many bytes as the start declares, all of them there, no fewer than the shortest
+-- frame has and no more than the longest; it is what the reader of one frame gives for them, and they are what settled it.
 pub record GoodHead (family : ℕ) (bs : List ℕ) (n : ℕ) (f : Frame) : Type 0 where
   pub some : 0 < n
   pub there : n ≤ length bs
+  pub long : shortest family ≤ n
   pub short : n ≤ longest family
   pub declared : n ≡ lengthAt family bs
   pub read : readOne family (take n bs) ≡ Good f
@@ -137,4 +157,13 @@ good-head family bs n f = by-course (course family bs)
     by-course (turns-bad s k) e = let z : _≡_ {A = ℕ} 0 1 = cc (whole k) in absurd (omega arith)
     by-course (is-whole m l k) e =
         let h = headOf-good m n f (readOne family (take m bs)) (sym (whole k) ∙ e) in
-        rw (← h .0) record { some = k .some; there = k .there; short = k .short; declared = sym l; read = h .1; settles = k .counted }
+        rw (← h .0)
+        record {
+          some = k .some;
+          there = k .there;
+          long = at-least family bs m f (k .there) (h .1);
+          short = k .short;
+          declared = sym l;
+          read = h .1;
+          settles = k .counted;
+        }

@@ -13,7 +13,7 @@ use lib.ListN.{length, take, drop, getD, length-take, length-drop, length-append
 use borrow.Author.Count.{below-none, below-more}
 use borrow.Author.Tests.{eq-eqb, ne-eqb, lt-ltb, le-ltb, le-leb}
 use Rattle.rules.specs.Bytes.{total}
-use Rattle.rules.specs.Codes.{packet, isAck, isCommand}
+use Rattle.rules.specs.Codes.{packetLength, packet, isAck, isCommand}
 use Rattle.rules.specs.Status.{dataOf, isStatus, statusFrame}
 use Rattle.rules.specs.Answers.{readOne, readFamily1, readFamily3}
 use Rattle.rules.specs.declared.Frame.{Frame}
@@ -223,6 +223,12 @@ module _ (family : ℕ) (spe : isSpe family ≡ true) (bs : List ℕ) where
       head-by false (by-count ∙ le-ltb (length bs) needed (omega arith)) ∙ ap (λ (k : ℕ). headOf k (readOne family (take k bs))) is-n,
       count-settles ∙ rw (is-n, ne-eqb n 0 (omega arith)),
     )
+
+  -- A good frame has at least the six bytes of a packet with a code.
+  pub at-least : (n : ℕ) (f : Frame) → n ≤ length bs → readOne family (take n bs) ≡ Good f → packetLength ≤ n
+  at-least n f there e =
+      let h = good-start n f e in
+      omega (arith, needs-six family (getD bs 3 0) (omega (arith, h .1, h .2)), h .1, length-take n bs)
 
   -- Every good frame at the head is found.
   pub complete : (n : ℕ) (f : Frame) → n ≤ length bs → readOne family (take n bs) ≡ Good f → head family bs ≡ good n f

@@ -14,7 +14,7 @@ use lib.ListN.{length, take, drop, getD, length-take, length-drop, length-append
 use lib.Seq.{drop-cons, getD-at}
 use borrow.Author.Tests.{eq-eqb, ne-eqb, lt-ltb, le-ltb, le-leb, lt-leb}
 use Rattle.rules.specs.Bytes.{every}
-use Rattle.rules.specs.Sentences.{isPayloadByte, isPayload, isSentence, payloadOf, checkOf}
+use Rattle.rules.specs.Sentences.{shortestSentence, isPayloadByte, isPayload, isSentence, payloadOf, checkOf}
 use Rattle.rules.specs.Answers.{readOne, readFamily2}
 use Rattle.rules.specs.declared.Frame.{Frame}
 use Rattle.rules.specs.declared.Reading.the-variants.{Good}
@@ -29,6 +29,7 @@ module _ (bs : List ℕ) where
   -- a good sentence at the head: `$`, a payload that is the run, `*` and four bytes
   record Sentence (n : ℕ) : Type 0 where
     dollar : getD bs 0 0 ≡ code "$"
+    least : 5 ≤ run bs
     fits : run bs ≤ 128
     star : getD bs (run bs + 1) 0 ≡ code "*"
     size : length (take n bs) ≡ run bs + 6
@@ -48,6 +49,7 @@ module _ (bs : List ℕ) where
       let four : length check ≡ 4 = omega (arith, length-drop (length t - 4) t, length-take (length t - 6) (drop 1 t), length-drop 1 t) in
       record {
         dollar = ap (λ (l : List ℕ). getD l 0 0) whole;
+        least = omega arith;
         fits = omega arith;
         star = ap (λ (l : List ℕ). getD l (run bs + 1) 0) whole ∙ getD-at (code "$" ∷ p) (code "*") (check ++ drop n bs) 0 (run bs + 1) (omega arith);
         size = omega (arith, ap length frame, length-append p (code "*" ∷ check));
@@ -134,6 +136,10 @@ module _ (bs : List ℕ) (dollar : getD bs 0 0 ≡ code "$") where
               ∙ ap (λ k. headOf (k + 6) (readOne 2 (take (k + 6) bs))) is-run,
           rw (dollar, is-run, le-leb r 128 fits, star),
         )
+
+-- A good sentence has at least 11 bytes.
+pub at-least : (bs : List ℕ) (n : ℕ) (f : Frame) → n ≤ length bs → readOne 2 (take n bs) ≡ Good f → shortestSentence ≤ n
+at-least bs n f there e = let h = good-start bs n f e in omega (arith, h .size, h .least, length-take n bs)
 
 -- Every good sentence at the head is found.
 pub complete : (bs : List ℕ) (n : ℕ) (f : Frame) → n ≤ length bs → readOne 2 (take n bs) ≡ Good f → head 2 bs ≡ good n f

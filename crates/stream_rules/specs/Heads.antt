@@ -8,7 +8,7 @@ use lib.ListN.{length, take, drop, getD}
 use Rattle.rules.specs.Bytes.{every}
 use Rattle.rules.specs.Codes.{packetLength}
 use Rattle.rules.specs.Status.{reportLength}
-use Rattle.rules.specs.Sentences.{longestPayload, longestSentence, isPayloadByte}
+use Rattle.rules.specs.Sentences.{longestPayload, shortestSentence, longestSentence, isPayloadByte}
 use Rattle.rules.specs.Answers.{replies, commands, readOne}
 use Rattle.rules.specs.declared.Frame.{Frame}
 use Rattle.rules.specs.declared.Reading.{Reading}
@@ -22,6 +22,14 @@ isSpe family = eqb family replies || eqb family commands
 -- The longest frame: 75 bytes of an SPE reply, 6 of a command, 134 of a sentence.
 abbrev pub longest : ℕ → ℕ
 longest family = cond (eqb family replies) reportLength (cond (eqb family commands) packetLength longestSentence)
+
+-- The shortest frame: 6 bytes of an SPE packet with a code, 11 of a sentence with the shortest payload; and the shortest
+-- of all families.
+abbrev pub shortest : ℕ → ℕ
+shortest family = cond (isSpe family) packetLength shortestSentence
+
+abbrev pub shortestFrame : ℕ
+shortestFrame = packetLength
 
 -- An SPE start is undecided while there are fewer than four bytes that match the three marks as far as they go, or three
 -- marks and an allowed count with fewer bytes than that count needs. A count that is not allowed needs none.

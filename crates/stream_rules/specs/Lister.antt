@@ -1,5 +1,5 @@
 -- The lister, its second entry, and the order of two stamps.
-use Prim.Native.Nat.{ℕ, _+_, _-_, _%_, _^_}
+use Prim.Native.Nat.{ℕ, _+_, _-_, _/_, _%_, _^_}
 use mathlib.Core.Path.{_≡_}
 use mathlib.Core.Bool.{Bool, _&&_, cond, not}
 use mathlib.Core.List.{List, [], _∷_, _++_, map}
@@ -9,7 +9,7 @@ use lib.IntN.{pos}
 use Rattle.rules.specs.Answers.{startsListed, Says, no, yes, noFamily, noRoom, isFamily}
 use denote.Ref.{RefT, now}
 use Rattle.rules.specs.Bytes.{part, PartOf}
-use Rattle.stream_rules.specs.Heads.{head, atClose}
+use Rattle.stream_rules.specs.Heads.{shortestFrame, head, atClose}
 use Rattle.stream_rules.specs.Rule.{Found, rule, look, byLook}
 use Rattle.stream_rules.specs.declared.Listed.{Listed}
 use Rattle.stream_rules.specs.declared.Listed.the-variants.{Count, Refused}
@@ -29,6 +29,10 @@ tooLong = 7
 
 abbrev pub longestCapture : ℕ
 longestCapture = 65536
+
+-- So it has room for at most 10,922 frames.
+abbrev pub longestList : ℕ
+longestList = longestCapture / shortestFrame
 
 abbrev pub fits : List ℕ → Bool
 fits capture = leb (length capture) longestCapture

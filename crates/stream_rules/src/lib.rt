@@ -1,12 +1,15 @@
 // What a stream reader holds and answers, and how two stamps stand to each other. The rules for
 // them stand in specs/.
 use rules::Frame;
+use rules::SHORTEST_FRAME;
 
 // The held places of a reader: one fewer than the longest frame of any family has bytes.
 pub const PLACES: usize = 133;
 
-// The longest capture.
+// The longest capture, and the most frames that it has room for.
 pub const LONGEST_CAPTURE: usize = 65536;
+
+pub const LONGEST_LIST: usize = LONGEST_CAPTURE / SHORTEST_FRAME;
 
 // A reader of one family's stream. Every value of it is a legal argument: the calls answer or refuse. A
 // C program holds one too, so its fields lie as C lays them, without gaps: 144 bytes.

@@ -11,7 +11,7 @@ use rules::LONGEST_PAYLOAD;
 use rules::REPLIES;
 use rules::REPORT_LENGTH;
 use rules::SENTENCES;
-use starts::begins_report;
+use spe::begins_report;
 use starts::is_payload;
 use stream_rules::PLACES;
 use texts::text;

@@ -7,7 +7,7 @@ use rules::REPLIES;
 use rules::REPORT_LENGTH;
 use search::Stop;
 use search::next_stop;
-use starts::begins_report;
+use spe::begins_report;
 use stream::advanced;
 use texts::further;
 ghost use mathlib.Core.Path.{_≡_};

@@ -17,7 +17,7 @@ use Rattle.stream_laws.proofs.Families.{facts}
 use Rattle.stream_laws.proofs.Starts.{NotGood, bad-not-good}
 use Rattle.stream_laws.proofs.Walks.{Passed, nothing-passed, passes, first-good, none-left}
 use Rattle.search.specs.Sought.{firstFrom, AtStop, Stops}
-use Rattle.search.proofs.Stopping.{part-there, whole-there}
+use Rattle.search.proofs.Stopping.{WholeAt, part-there, whole-there}
 use Rattle.search.specs.declared.First.{First}
 use Rattle.search.specs.declared.First.the-variants.{At, Nothing}
 use Rattle.search.specs.declared.Stop.{Stop}
@@ -68,24 +68,63 @@ Inv-loop family s from stop₀ stop = Passed (head family) s from (stop .at) × 
 abbrev μ-loop : tie.MeasureT-loop
 μ-loop family s from stop₀ stop = length s - stop .at
 
--- the frame's bytes are there
-there : (c : tie.Then2 Inv-loop μ-loop) → (0 < c .before .before .before .loop .stop .size) × (c .before .before .before .loop .stop .size ≤ length (c .before .before .before .before .before .before .args .s .now) - c .before .before .before .loop .stop .at)
-there c = whole-there (c .before .before .before .before .before .before .args .family) (c .before .before .before .before .before .before .args .s .now) (c .before .before .before .loop .stop .at) (c .before .before .before .loop .stop .size) (c .before .before .before .loop .inv .1 .whole (c .if2 .taken))
+-- What is known at each turn: the family, the bytes, where the walk began, and the stop that it has come to.
+module _ (k : tie.At-loop Inv-loop μ-loop) where
+  abbrev start : tie.Start Inv-loop μ-loop
+  start = k .before .before .before
 
--- what was read there
-was-read : (c : tie.After-read-frame Inv-loop μ-loop) → c .read-frame .result ≡ readOne (c .before .before .before .before .before .before .before .before .args .family) (take (c .before .before .before .before .before .loop .stop .size) (drop (c .before .before .before .before .before .loop .stop .at) (c .before .before .before .before .before .before .before .before .args .s .now)))
-was-read c =
-    let a = c .before .before .before .before .before .before .before .before .args in
-    c .read-frame .ensures .answers ∙ ap (readOne (a .family)) (part-there (a .family) (a .s .now) (c .before .before .before .before .before .loop .stop .at) (c .before .before .before .before .before .loop .stop .size))
+  abbrev family : ℕ
+  family = start .args .family
 
--- the start at the stop is not good: refused, or undecided
-not-here : (c : tie.Joined2 Inv-loop μ-loop) → NotGood (head (c .before .before .before .before .before .before .args .family) (drop (c .before .before .before .loop .stop .at) (c .before .before .before .before .before .before .args .s .now)))
+  abbrev bytes : List ℕ
+  bytes = start .args .s .now
+
+  abbrev from : ℕ
+  from = start .args .from
+
+  abbrev stop : Stop
+  stop = k .loop .stop
+
+  -- the bytes of a frame at the stop, and that a call is lent them
+  abbrev frame : List ℕ
+  frame = take (stop .size) (drop (stop .at) bytes)
+
+  lent : take (stop .at + stop .size - stop .at) (drop (stop .at) bytes) ≡ frame
+  lent = part-there family bytes (stop .at) (stop .size)
+
+-- Where the reader of one frame is to decide,
+module _ (c : tie.Then2 Inv-loop μ-loop) where
+  abbrev turn : tie.At-loop Inv-loop μ-loop
+  turn = c .before .before .before
+
+  abbrev whole : WholeAt (family turn) (bytes turn) (stop turn .at) (stop turn .size)
+  whole = turn .loop .inv .1 .whole (c .if2 .taken)
+
+  -- the frame's bytes are there,
+  there : (0 < stop turn .size) × (stop turn .size ≤ length (bytes turn) - stop turn .at)
+  there = whole-there (family turn) (bytes turn) (stop turn .at) (stop turn .size) whole
+
+-- and it has read them.
+module _ (c : tie.After-read-frame Inv-loop μ-loop) where
+  abbrev to-read : tie.Then2 Inv-loop μ-loop
+  to-read = c .before .before
+
+  was-read : c .read-frame .result ≡ readOne (family (turn to-read)) (frame (turn to-read))
+  was-read = c .read-frame .ensures .answers ∙ ap (readOne (family (turn to-read))) (lent (turn to-read))
+
+-- The start at the stop is not good: refused, or undecided.
+not-here : (c : tie.Joined2 Inv-loop μ-loop)
+    → let k : tie.At-loop Inv-loop μ-loop = c .before .before .before in
+    NotGood (head (family k) (drop (stop k .at) (bytes k)))
 not-here c =
-    let loop = c .before .before .before .loop in
-    let a = c .before .before .before .before .before .before .args in
+    let k = c .before .before .before in
+    let found = k .loop .inv .1 in
+    let size = stop k .size in
     ⊎-elim
-    (λ w. bad-not-good (loop .inv .1 .whole (w .0 .taken) .0 ∙ ap (headOf (loop .stop .size)) (ap (readOne (a .family)) (sym (part-there (a .family) (a .s .now) (loop .stop .at) (loop .stop .size))) ∙ sym (w .2 .ensures .answers) ∙ w .4 .given .1)))
-    (λ w. wait-not-good (loop .inv .1 .waits (w .left) (omega arith)))
+    (λ w.
+    let read = ap (readOne (family k)) (sym (lent k)) ∙ sym (w .2 .ensures .answers) in
+    bad-not-good (found .whole (w .0 .taken) .0 ∙ ap (headOf size) (read ∙ w .4 .given .1)))
+    (λ w. wait-not-good (found .waits (w .left) (omega arith)))
     (c .if2 .came)
 
 next-stop-requires : tie.Need-next-stop-requires Inv-loop μ-loop
@@ -114,10 +153,10 @@ enum-known-frame c = search needs
 
 returns : tie.Need-returns Inv-loop μ-loop
 returns c =
-    let loop = c .before .before .before .before .before .before .before .before .loop in
-    let a = c .before .before .before .before .before .before .before .before .before .before .before .args in
-    ready (a .family) (a .s .now) (a .from) (loop .stop .at) (loop .inv .0) _ _
-    (loop .inv .1 .whole (c .before .before .before .before .before .if2 .taken) .0 ∙ ap (headOf (loop .stop .size)) (sym (was-read (c .before .before .before)) ∙ c .before .frame .given .1))
+    let read = c .before .before .before in
+    let k = turn (to-read read) in
+    let good = ap (headOf (stop k .size)) (sym (was-read read) ∙ c .before .frame .given .1) in
+    ready (family k) (bytes k) (from k) (stop k .at) (k .loop .inv .0) _ _ (whole (to-read read) .0 ∙ good)
 
 enum-told : tie.Need-enum-told Inv-loop μ-loop
 enum-told c = search needs
@@ -133,12 +172,14 @@ loop-less c = omega (arith, c .next-stop2 .ensures .walks .ahead)
 
 loop-again : tie.Need-loop-again Inv-loop μ-loop
 loop-again c =
-    let loop = c .before .before .before .before .loop in
-    let a = c .before .before .before .before .before .before .before .args in
-    (onward (a .family) (a .s .now) (a .from) (loop .stop .at) (loop .inv .0) (not-here (c .before)) _ _ (c .next-stop2 .ensures), c .next-stop2 .ensures .found)
+    let k = c .before .before .before .before in
+    let next = c .next-stop2 .ensures in
+    (onward (family k) (bytes k) (from k) (stop k .at) (k .loop .inv .0) (not-here (c .before)) _ _ next, next .found)
 
 returns-2 : tie.Need-returns-2 Inv-loop μ-loop
-returns-2 c = ends (c .before .before .before .before .before .args .family) (c .before .before .before .before .before .args .s .now) (c .before .before .before .before .before .args .from) _ (c .before .before .loop .inv .0) (c .if1 .left)
+returns-2 c =
+    let k = c .before .before in
+    ends (family k) (bytes k) (from k) _ (k .loop .inv .0) (c .if1 .left)
 
 pub first-good-spec : {M : Type 1} → statement M
 first-good-spec =

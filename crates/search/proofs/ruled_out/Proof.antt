@@ -9,16 +9,14 @@ use Rattle.search.proofs.Soon.{no-report, no-ack}
 use Rattle.search.proofs.ruled_out.Statement.{statement}
 use Rattle.search.proofs.ruled_out.Tie as tie
 
-shared-slice-read-result : tie.Need-shared-slice-read-result
-shared-slice-read-result c = search needs
-
-shared-slice-read-result-2 : tie.Need-shared-slice-read-result-2
-shared-slice-read-result-2 c = search needs
+ends-report-requires : tie.Need-ends-report-requires
+ends-report-requires c κs = search needs
 
 returns : tie.Need-returns
 returns c =
-    let long = c .before .before .if1 .taken in
-    λ fails. no-report _ (c .before .before .before .before .pre) _ long (not-ended _ long (not-true _ fails))
+    let whole = c .before in
+    let long = whole .if1 .taken in
+    λ fails. no-report _ (whole .before .before .pre) _ long (not-ended _ long (sym (c .ends-report .ensures) ∙ not-true _ fails))
 
 is-command-requires : tie.Need-is-command-requires
 is-command-requires c κs = search needs
@@ -31,8 +29,9 @@ is-ack-requires c κs = search needs
 
 returns-3 : tie.Need-returns-3
 returns-3 c =
-    λ fails. no-ack _ (c .before .before .before .before .pre) _ (c .before .before .if1 .left) (c .before .if2 .left) (sym (c .is-ack .ensures) ∙ not-true _ fails)
+    let reply = c .before in
+    let short = reply .before in
+    λ fails. no-ack _ (short .before .before .pre) _ (short .if1 .left) (reply .if2 .left) (sym (c .is-ack .ensures) ∙ not-true _ fails)
 
 pub ruled-out-spec : {M : Type 1} → statement M
-ruled-out-spec =
-    tie.close (tie.spec shared-slice-read-result shared-slice-read-result-2 returns is-command-requires returns-2 is-ack-requires returns-3)
+ruled-out-spec = tie.close (tie.spec ends-report-requires returns is-command-requires returns-2 is-ack-requires returns-3)

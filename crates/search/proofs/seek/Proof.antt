@@ -1,15 +1,17 @@
 -- `seek::seek` meets its contract. The loop's invariant: the walk from the first start on has come to the stop. The measure is
 -- what is left of the bytes.
 -- Assumes nothing.
-use Prim.Native.Nat.{_-_, _≤_, _<_}
+use Prim.Native.Nat.{ℕ, _-_, _≤_, _<_}
 use mathlib.Core.Path.{_≡_, sym, ap, _∙_}
+use mathlib.Core.List.{List}
 use native.Mathlib.Omega.{arith}
 use borrow.Author.Needs.{needs}
 use lib.ListN.{length, take, drop}
 use Rattle.rules.specs.Answers.{readOne}
 use Rattle.stream_rules.specs.Heads.{headOf}
 use Rattle.search.specs.Sought.{Stops}
-use Rattle.search.proofs.Stopping.{part-there, whole-there}
+use Rattle.search.specs.declared.Stop.{Stop}
+use Rattle.search.proofs.Stopping.{WholeAt, part-there, whole-there}
 use Rattle.search.proofs.Searching.{ready, waiting, onward}
 use Rattle.search.proofs.seek.Statement.{statement}
 use Rattle.search.proofs.seek.Tie as tie
@@ -20,15 +22,42 @@ Inv-loop family s stop₀ stop = Stops family s 0 0 stop
 abbrev μ-loop : tie.MeasureT-loop
 μ-loop family s stop₀ stop = length s - stop .at
 
--- the frame's bytes are there
-there : (c : tie.Then1 Inv-loop μ-loop) → (0 < c .before .before .loop .stop .size) × (c .before .before .loop .stop .size ≤ length (c .before .before .before .before .before .args .s .now) - c .before .before .loop .stop .at)
-there c = whole-there (c .before .before .before .before .before .args .family) (c .before .before .before .before .before .args .s .now) (c .before .before .loop .stop .at) (c .before .before .loop .stop .size) (c .before .before .loop .inv .found .whole (c .if1 .taken))
+-- What is known at each turn: the family, the bytes, and the stop that the walk has come to.
+module _ (k : tie.At-loop Inv-loop μ-loop) where
+  abbrev family : ℕ
+  family = k .before .before .before .args .family
 
--- what was read there
-was-read : (c : tie.After-read-frame Inv-loop μ-loop) → c .read-frame .result ≡ readOne (c .before .before .before .before .before .before .before .args .family) (take (c .before .before .before .before .loop .stop .size) (drop (c .before .before .before .before .loop .stop .at) (c .before .before .before .before .before .before .before .args .s .now)))
-was-read c =
-    let a = c .before .before .before .before .before .before .before .args in
-    c .read-frame .ensures .answers ∙ ap (readOne (a .family)) (part-there (a .family) (a .s .now) (c .before .before .before .before .loop .stop .at) (c .before .before .before .before .loop .stop .size))
+  abbrev bytes : List ℕ
+  bytes = k .before .before .before .args .s .now
+
+  abbrev stop : Stop
+  stop = k .loop .stop
+
+  -- the bytes of a frame at the stop
+  abbrev frame : List ℕ
+  frame = take (stop .size) (drop (stop .at) bytes)
+
+-- Where the reader of one frame is to decide,
+module _ (c : tie.Then1 Inv-loop μ-loop) where
+  abbrev turn : tie.At-loop Inv-loop μ-loop
+  turn = c .before .before
+
+  abbrev whole : WholeAt (family turn) (bytes turn) (stop turn .at) (stop turn .size)
+  whole = turn .loop .inv .found .whole (c .if1 .taken)
+
+  -- the frame's bytes are there,
+  there : (0 < stop turn .size) × (stop turn .size ≤ length (bytes turn) - stop turn .at)
+  there = whole-there (family turn) (bytes turn) (stop turn .at) (stop turn .size) whole
+
+-- and it has read them.
+module _ (c : tie.After-read-frame Inv-loop μ-loop) where
+  abbrev to-read : tie.Then1 Inv-loop μ-loop
+  to-read = c .before .before
+
+  was-read : c .read-frame .result ≡ readOne (family (turn to-read)) (frame (turn to-read))
+  was-read =
+      let k = turn to-read in
+      c .read-frame .ensures .answers ∙ ap (readOne (family k)) (part-there (family k) (bytes k) (stop k .at) (stop k .size))
 
 next-stop-requires : tie.Need-next-stop-requires Inv-loop μ-loop
 next-stop-requires c κs = search needs
@@ -62,11 +91,10 @@ further-requires c κs = search needs
 
 returns : tie.Need-returns Inv-loop μ-loop
 returns c =
-    let loop = c .before .before .before .before .before .before .before .before .loop in
-    let a = c .before .before .before .before .before .before .before .before .before .before .before .args in
-    ready (a .family) (a .s .now) (loop .stop) (loop .inv) _ _
-    (loop .inv .found .whole (c .before .before .before .before .before .before .if1 .taken) .0 ∙ ap (headOf (loop .stop .size)) (sym (was-read (c .before .before .before .before)) ∙ c .before .before .frame .given .1))
-    (c .further .ensures)
+    let read = c .before .before .before .before in
+    let k = turn (to-read read) in
+    let good = ap (headOf (stop k .size)) (sym (was-read read) ∙ c .before .before .frame .given .1) in
+    ready (family k) (bytes k) (stop k) (k .loop .inv) _ _ (whole (to-read read) .0 ∙ good) (c .further .ensures)
 
 enum-told : tie.Need-enum-told Inv-loop μ-loop
 enum-told c = search needs
@@ -88,14 +116,16 @@ loop-less c = omega (arith, there (c .before .before .before .before .before .be
 
 loop-again : tie.Need-loop-again Inv-loop μ-loop
 loop-again c =
-    let loop = c .before .before .before .before .before .before .before .before .loop in
-    let a = c .before .before .before .before .before .before .before .before .before .before .before .args in
-    onward (a .family) (a .s .now) (loop .stop) (loop .inv) (c .before .before .before .before .before .before .if1 .taken)
-    (ap (headOf (loop .stop .size)) (sym (was-read (c .before .before .before .before)) ∙ c .before .before .enum-told .given .1))
+    let read = c .before .before .before .before in
+    let k = turn (to-read read) in
+    let refused = ap (headOf (stop k .size)) (sym (was-read read) ∙ c .before .before .enum-told .given .1) in
+    onward (family k) (bytes k) (stop k) (k .loop .inv) (to-read read .if1 .taken) refused
     _ (c .before .further2 .ensures) _ (c .next-stop2 .ensures)
 
 returns-2 : tie.Need-returns-2 Inv-loop μ-loop
-returns-2 c = waiting (c .before .before .before .before .before .args .family) (c .before .before .before .before .before .args .s .now) (c .before .before .loop .stop) (c .before .before .loop .inv) (c .if1 .left)
+returns-2 c =
+    let k = c .before .before in
+    waiting (family k) (bytes k) (stop k) (k .loop .inv) (c .if1 .left)
 
 pub seek-spec : {M : Type 1} → statement M
 seek-spec =

@@ -10,6 +10,7 @@ use borrow.Author.Tests.{not-true, not-false, le-leb, lt-leb}
 use lib.Dec.{leb}
 use lib.ListN.{length, drop}
 use Rattle.rules.specs.Answers.{isFamily}
+use Rattle.stream_rules.specs.Heads.{shortestFrame}
 use Rattle.stream_rules.specs.Lister.{frames, startsOf, fits, Lists}
 use Rattle.stream_rules.specs.declared.Listed.{Listed}
 use Rattle.stream_rules.specs.declared.Listed.the-variants.{Count, Refused}
@@ -43,8 +44,8 @@ module _ (family : ℕ) (bs out : List ℕ) where
   counts e g r n left count content =
       lists (ap Count count ∙ (λ i. answer (sym e i) (sym g i) (sym r i))) (content ∙ (λ i. after (sym e i) (sym g i) (sym r i)))
 
--- where a sixth as many places as bytes are lent, there is room
-room-for-all : (family : ℕ) (bs out : List ℕ) → length bs / 6 ≤ length out → length (frames family bs) ≤ length out
+-- where as many places are lent as the bytes have room for frames, there is room
+room-for-all : (family : ℕ) (bs out : List ℕ) → length bs / shortestFrame ≤ length out → length (frames family bs) ≤ length out
 room-for-all family bs out h = omega (arith, few-frames family bs, h)
 
 -- where the family's test has been passed

@@ -1,26 +1,19 @@
 -- `lister::steps::reply_size` meets its contract: by the count, six bytes are an acknowledgement, 75 are a report, or there is
 -- none.
 -- Assumes nothing.
-use Prim.Native.Nat.{ℕ}
-use mathlib.Core.Path.{_≡_, refl, sym, _∙_}
-use mathlib.Core.Bool.{_&&_}
-use mathlib.Core.List.{List}
+use Prim.Native.Nat.{_≤_}
+use mathlib.Core.Path.{refl, sym, _∙_}
 use native.Mathlib.Omega.{arith}
 use borrow.Author.Needs.{needs as kit}
 use borrow.Author.Tests.{not-true}
-use lib.Dec.{eqb}
-use lib.ListN.{take, getD}
-use lib.Seq.{length-take-le, getD-take}
-use Rattle.spe.proofs.ReportFrames.{ends, not-ended}
+use lib.ListN.{length, take}
+use lib.Seq.{length-take-le}
+use Rattle.spe.proofs.ReportFrames.{not-ended, whole-end}
 use Rattle.stream_laws.proofs.PacketStarts.{needs-report, needs-none}
 use Rattle.captures.proofs.Sizes.{size-none, too-short, not-declared}
 use Rattle.captures.proofs.Packets.{not-allowed, ack, no-ack, report, no-report}
 use Rattle.captures.proofs.steps.reply_size.Statement.{statement}
 use Rattle.captures.proofs.steps.reply_size.Tie as tie
-
--- the end of the report is that of its bytes
-whole-end : (s : List ℕ) → ends (take 75 s) ≡ (eqb (getD s 73 0) 0x0D && eqb (getD s 74 0) 0x0A)
-whole-end s = λ i. eqb (getD-take 75 s 73 0 (omega arith) i) 0x0D && eqb (getD-take 75 s 74 0 (omega arith) i) 0x0A
 
 returns : tie.Need-returns
 returns c = size-none 1 _ (too-short 1 _ (c .if1 .taken))
@@ -46,21 +39,22 @@ returns-4 c = not-allowed _ 1 refl (needs-none 1 _ (c .before .if2 .left) (λ on
 returns-5 : tie.Need-returns-5
 returns-5 c = size-none 1 _ (not-declared 1 _ 75 (needs-report 1 _ refl (c .before .if4 .left)) (c .if5 .taken))
 
-shared-slice-read-if6 : tie.Need-shared-slice-read-if6
-shared-slice-read-if6 c = search kit
-
-shared-slice-read-if6-2 : tie.Need-shared-slice-read-if6-2
-shared-slice-read-if6-2 c = search kit
+ends-report-requires : tie.Need-ends-report-requires
+ends-report-requires c κs = search kit
 
 -- where the count is a report's, and as many bytes are there, its end is tested
 returns-6 : tie.Need-returns-6
 returns-6 c =
-    let s = c .before .before .before .before .before .before .before .before .before .args .s .now in
-    let there = c .before .before .before in
-    no-report s (omega (arith, there .if5 .left)) (there .before .if4 .left) (not-ended (take 75 s) (length-take-le 75 s (omega (arith, there .if5 .left))) (whole-end s ∙ not-true _ (c .if6 .taken)))
+    let asked = c .before in
+    let there = asked .before in
+    let of-report = there .before in
+    let s = of-report .before .before .before .before .before .args .s .now in
+    let long : 75 ≤ length s = omega (arith, there .if5 .left) in
+    let no-end = whole-end s long ∙ sym (asked .ends-report .ensures) ∙ not-true _ (c .if6 .taken) in
+    no-report s long (of-report .if4 .left) (not-ended (take 75 s) (length-take-le 75 s long) no-end)
 
 slice-aggregate-is-status : tie.Need-slice-aggregate-is-status
-slice-aggregate-is-status c = sym (length-take-le 75 (c .before .before .before .before .before .before .before .before .before .before .args .s .now) (omega arith))
+slice-aggregate-is-status c = sym (length-take-le 75 (c .before .before .before .before .before .before .before .before .before .args .s .now) (omega arith))
 
 is-status-requires : tie.Need-is-status-requires
 is-status-requires c κs = search kit
@@ -69,7 +63,7 @@ returns-7 : tie.Need-returns-7
 returns-7 c = report _ (omega arith) (sym (c .before .is-status .ensures) ∙ c .if7 .taken)
 
 returns-8 : tie.Need-returns-8
-returns-8 c = no-report _ (omega arith) (c .before .before .before .before .before .before .before .if4 .left) (sym (c .before .is-status .ensures) ∙ c .if7 .left)
+returns-8 c = no-report _ (omega arith) (c .before .before .before .before .before .before .if4 .left) (sym (c .before .is-status .ensures) ∙ c .if7 .left)
 
 pub reply-size-spec : {M : Type 1} → statement M
 reply-size-spec =
@@ -83,8 +77,7 @@ reply-size-spec =
     returns-3
     returns-4
     returns-5
-    shared-slice-read-if6
-    shared-slice-read-if6-2
+    ends-report-requires
     returns-6
     slice-aggregate-is-status
     is-status-requires

@@ -1,4 +1,4 @@
--- `status_tests::is_report` meets its contract: its tests are those of the bytes in front and behind. The sum of 67 bytes does
+-- `status::is_report` meets its contract: its tests are those of the bytes in front and behind. The sum of 67 bytes does
 -- not wrap.
 -- Assumes nothing.
 use Prim.Native.Nat.{ℕ, _/_, _%_, _^_}
@@ -26,33 +26,22 @@ module _ (s : List ℕ) (h : length s ≡ 75) where
 returns : tie.Need-returns
 returns c = sym (not-framed _ (c .if1 .taken))
 
-shared-slice-read-if2 : tie.Need-shared-slice-read-if2
-shared-slice-read-if2 c = search needs
-
-shared-slice-read-if2-2 : tie.Need-shared-slice-read-if2-2
-shared-slice-read-if2-2 c = search needs
-
-shared-slice-read-if2-3 : tie.Need-shared-slice-read-if2-3
-shared-slice-read-if2-3 c = search needs
-
-shared-slice-read-if2-4 : tie.Need-shared-slice-read-if2-4
-shared-slice-read-if2-4 c = search needs
+begins-report-requires : tie.Need-begins-report-requires
+begins-report-requires c κs = search needs
 
 returns-2 : tie.Need-returns-2
 returns-2 c =
-    let d = c .before .before .before .before .before in
-    sym (bad-front _ (d .if1 .left) (not-true _ (c .if2 .taken)))
+    let asked = c .before in
+    sym (bad-front _ (asked .before .if1 .left) (sym (asked .begins-report .ensures) ∙ not-true _ (c .if2 .taken)))
 
-shared-slice-read-if3 : tie.Need-shared-slice-read-if3
-shared-slice-read-if3 c = search needs
-
-shared-slice-read-if3-2 : tie.Need-shared-slice-read-if3-2
-shared-slice-read-if3-2 c = search needs
+ends-report-requires : tie.Need-ends-report-requires
+ends-report-requires c κs = search needs
 
 returns-3 : tie.Need-returns-3
 returns-3 c =
-    let d = c .before .before .before .before .before .before .before .before in
-    sym (bad-ends _ (d .if1 .left) (not-true _ (c .if3 .taken)))
+    let asked = c .before in
+    let long = asked .before .before .before in
+    sym (bad-ends _ (long .if1 .left) (sym (asked .ends-report .ensures) ∙ not-true _ (c .if3 .taken)))
 
 text-requires : tie.Need-text-requires
 text-requires c κs = search needs
@@ -74,25 +63,30 @@ wide-requires-2 c κs = search needs
 
 returns-4 : tie.Need-returns-4
 returns-4 c =
-    let d = c .before .before .before .before .before .before in
-    let one = d .before .before .before .before .before .before .before .before in
-    let s = one .before .before .args .s .now in
-    let total-is = exact s (one .if1 .left) (λ k. one .before .shared-slice-known .given k .fits) _ (c .before .before .before .before .sum .ensures ∙ ap (λ (l : List ℕ). total l % 2 ^ 32) (c .before .before .before .before .before .text .ensures .content)) in
-    (λ i. eqb (c .before .before .wide .ensures i) (total-is i % 256) && eqb (c .wide2 .ensures i) (total-is i / 256))
-    ∙ sym (good-ends s (one .if1 .left) (not-false _ (d .before .before .before .if2 .left)) (not-false _ (d .if3 .left)))
+    let first = c .before .before in
+    let summed = first .before .before in
+    let ended = summed .before .before in
+    let asked-end = ended .before in
+    let begun = asked-end .before in
+    let asked-begin = begun .before in
+    let long = asked-begin .before in
+    let bytes = long .before in
+    let s = bytes .before .args .s .now in
+    let data-is = ap (λ (l : List ℕ). total l % 2 ^ 32) (summed .before .text .ensures .content) in
+    let total-is = exact s (long .if1 .left) (λ k. bytes .shared-slice-known .given k .fits) _ (summed .sum .ensures ∙ data-is) in
+    let begins = sym (asked-begin .begins-report .ensures) ∙ not-false _ (begun .if2 .left) in
+    let ends = sym (asked-end .ends-report .ensures) ∙ not-false _ (ended .if3 .left) in
+    (λ i. eqb (first .wide .ensures i) (total-is i % 256) && eqb (c .wide2 .ensures i) (total-is i / 256))
+    ∙ sym (good-ends s (long .if1 .left) begins ends)
 
 pub is-report-spec : {M : Type 1} → statement M
 is-report-spec =
     tie.close
     (tie.spec
     returns
-    shared-slice-read-if2
-    shared-slice-read-if2-2
-    shared-slice-read-if2-3
-    shared-slice-read-if2-4
+    begins-report-requires
     returns-2
-    shared-slice-read-if3
-    shared-slice-read-if3-2
+    ends-report-requires
     returns-3
     text-requires
     sum-requires

@@ -1,89 +1,145 @@
 -- `heads::examine_packet` meets its contract: its tests go along the rules for an SPE start, byte by byte.
 -- Assumes nothing.
-use mathlib.Core.Path.{sym, _∙_}
+use Prim.Native.Nat.{ℕ, _+_, _≤_, _<_}
+use mathlib.Core.Path.{_≡_, sym, _∙_}
+use mathlib.Core.Bool.{true}
+use mathlib.Core.List.{List}
 use native.Mathlib.Omega.{arith}
 use borrow.Author.Needs.{needs as kit}
+use lib.ListN.{length, getD}
+use Rattle.stream_rules.specs.Heads.{isSpe, needs}
 use Rattle.stream_laws.proofs.PacketStarts.{Marks, no-marks, one-more, no-mark, no-count, bytes-missing, all-there}
+use Rattle.starts.specs.Seen.{seen}
+use Rattle.starts.specs.declared.heads.Seen.the-variants.{Whole, Bad, Undecided}
 use Rattle.starts.proofs.Seeing.{undecided, by-whole, few, counted, bad-packet}
 use Rattle.starts.proofs.heads.examine_packet.Statement.{statement}
 use Rattle.starts.proofs.heads.examine_packet.Tie as tie
 
--- the marks that the tests have found
-one : (c : tie.Else2) → Marks (c .before .before .before .before .before .args .family) 1 (c .before .before .before .before .before .args .s .now)
-one c =
-    let a = c .before .before .before .before .before .args in
-    one-more (a .family) (a .s .now) 0 (no-marks (a .family) (a .s .now)) (c .if2 .left ∙ c .before .before .before .mark-of .ensures)
+-- What is known from the first test on: the family, the bytes, and the mark that they are compared with.
+module _ (k : tie.After-mark-of) where
+  abbrev family : ℕ
+  family = k .before .before .args .family
 
-two : (c : tie.Else4) → Marks (c .before .before .before .before .before .before .before .before .args .family) 2 (c .before .before .before .before .before .before .before .before .args .s .now)
-two c =
-    let a = c .before .before .before .before .before .before .before .before .args in
-    one-more (a .family) (a .s .now) 1 (one (c .before .before .before)) (c .if4 .left ∙ c .before .before .before .before .before .before .mark-of .ensures)
+  abbrev bytes : List ℕ
+  bytes = k .before .before .args .s .now
 
-three : (c : tie.Else6) → Marks (c .before .before .before .before .before .before .before .before .before .before .before .args .family) 3 (c .before .before .before .before .before .before .before .before .before .before .before .args .s .now)
-three c =
-    let a = c .before .before .before .before .before .before .before .before .before .before .before .args in
-    one-more (a .family) (a .s .now) 2 (two (c .before .before .before)) (c .if6 .left ∙ c .before .before .before .before .before .before .before .before .before .mark-of .ensures)
+  abbrev mark : ℕ
+  mark = k .mark-of .result
+
+  spe : isSpe family ≡ true
+  spe = k .before .before .pre
+
+  -- no mark yet, and one more
+  none : Marks family 0 bytes
+  none = no-marks family bytes
+
+  more : (i : ℕ) → Marks family i bytes → getD bytes i 0 ≡ mark → Marks family (i + 1) bytes
+  more i marks e = one-more family bytes i marks (e ∙ k .mark-of .ensures)
+
+  -- behind i marks no byte more, or another byte than a mark
+  ended : (i : ℕ) → length bytes ≡ i → i < 4 → Marks family i bytes → Undecided ≡ seen family bytes
+  ended = few family spe bytes
+
+  broken : (i : ℕ) → i < 3 → i < length bytes → Marks family i bytes → (getD bytes i 0 ≡ mark → ⊥) → Bad (i + 1) ≡ seen family bytes
+  broken i low there marks other =
+      bad-packet family spe bytes (i + 1) (omega arith) (omega arith)
+      (no-mark family spe bytes i low there marks (λ e. other (e ∙ sym (k .mark-of .ensures))))
+
+-- The places where one, two and three marks have been found, and that place behind `mark_of` from each.
+abbrev from-one : tie.Else2 → tie.After-mark-of
+from-one c = c .before .before .before
+
+abbrev from-two : tie.Else4 → tie.After-mark-of
+from-two c = from-one (c .before .before .before)
+
+abbrev from-three : tie.Else6 → tie.After-mark-of
+from-three c = from-two (c .before .before .before)
+
+one : (c : tie.Else2) → Marks (family (from-one c)) 1 (bytes (from-one c))
+one c = more (from-one c) 0 (none (from-one c)) (c .if2 .left)
+
+two : (c : tie.Else4) → Marks (family (from-two c)) 2 (bytes (from-two c))
+two c = more (from-two c) 1 (one (c .before .before .before)) (c .if4 .left)
+
+three : (c : tie.Else6) → Marks (family (from-three c)) 3 (bytes (from-three c))
+three c = more (from-three c) 2 (two (c .before .before .before)) (c .if6 .left)
+
+-- a number that is not 0
+ne-zero : {n : ℕ} → (n ≡ 0 → ⊥) → 0 < n
+ne-zero some = omega arith
+
+-- With three marks and a count: what the count needs decides.
+four-there : (c : tie.Else7) → 4 ≤ length (bytes (from-three (c .before)))
+four-there c = omega arith
+
+module _ (c : tie.After-bytes-needed) where
+  abbrev found : tie.Else6
+  found = c .before .before .before
+
+  abbrev k : tie.After-mark-of
+  k = from-three found
+
+  abbrev size : ℕ
+  size = c .bytes-needed .result
+
+  there : 4 ≤ length (bytes k)
+  there = four-there (c .before .before)
+
+  is-size : needs (family k) (getD (bytes k) 3 0) ≡ size
+  is-size = sym (c .bytes-needed .ensures)
+
+  not-allowed : size ≡ 0 → Bad 4 ≡ seen (family k) (bytes k)
+  not-allowed zero =
+      bad-packet (family k) (spe k) (bytes k) 4 (omega arith) (omega arith)
+      (no-count (family k) (spe k) (bytes k) there (three found) (is-size ∙ zero))
+
+  missing : length (bytes k) < size → Undecided ≡ seen (family k) (bytes k)
+  missing fewer = undecided (family k) (bytes k) (bytes-missing (family k) (spe k) (bytes k) there (three found) size is-size fewer)
+
+  whole : 0 < size → size ≤ length (bytes k) → Whole size ≡ seen (family k) (bytes k)
+  whole some enough =
+      by-whole (family k) (bytes k) size
+      (all-there (family k) (spe k) (bytes k) there (three found) size is-size some enough)
+      (counted (family k) (spe k) (bytes k) ∙ is-size)
 
 mark-of-requires : tie.Need-mark-of-requires
 mark-of-requires c κs = search kit
 
 returns : tie.Need-returns
-returns c =
-    let start = c .before .before .before in
-    let family = start .args .family in
-    let bytes = start .args .s .now in
-    few family (start .pre) bytes 0 (c .if1 .taken) (omega arith) (no-marks family bytes)
+returns c = ended (c .before) 0 (c .if1 .taken) (omega arith) (none (c .before))
 
 shared-slice-read-if2 : tie.Need-shared-slice-read-if2
 shared-slice-read-if2 c = search kit
 
 returns-2 : tie.Need-returns-2
 returns-2 c =
-    let start = c .before .before .before .before .before in
-    let family = start .args .family in
-    let bytes = start .args .s .now in
-    bad-packet family (start .pre) bytes 1 (omega arith) (omega arith) (no-mark family (start .pre) bytes 0 (omega arith) (omega arith) (no-marks family bytes) (λ e. c .if2 .taken (e ∙ sym (c .before .before .before .mark-of .ensures))))
+    let k = c .before .before .before in
+    broken k 0 (omega arith) (omega arith) (none k) (c .if2 .taken)
 
 returns-3 : tie.Need-returns-3
-returns-3 c =
-    let start = c .before .before .before .before .before .before in
-    let family = start .args .family in
-    let bytes = start .args .s .now in
-    few family (start .pre) bytes 1 (c .if3 .taken) (omega arith) (one (c .before))
+returns-3 c = ended (from-one (c .before)) 1 (c .if3 .taken) (omega arith) (one (c .before))
 
 shared-slice-read-if4 : tie.Need-shared-slice-read-if4
 shared-slice-read-if4 c = search kit
 
 returns-4 : tie.Need-returns-4
 returns-4 c =
-    let start = c .before .before .before .before .before .before .before .before in
-    let family = start .args .family in
-    let bytes = start .args .s .now in
-    bad-packet family (start .pre) bytes 2 (omega arith) (omega arith) (no-mark family (start .pre) bytes 1 (omega arith) (omega arith) (one (c .before .before .before)) (λ e. c .if4 .taken (e ∙ sym (c .before .before .before .before .before .before .mark-of .ensures))))
+    let found = c .before .before .before in
+    broken (from-one found) 1 (omega arith) (omega arith) (one found) (c .if4 .taken)
 
 returns-5 : tie.Need-returns-5
-returns-5 c =
-    let start = c .before .before .before .before .before .before .before .before .before in
-    let family = start .args .family in
-    let bytes = start .args .s .now in
-    few family (start .pre) bytes 2 (c .if5 .taken) (omega arith) (two (c .before))
+returns-5 c = ended (from-two (c .before)) 2 (c .if5 .taken) (omega arith) (two (c .before))
 
 shared-slice-read-if6 : tie.Need-shared-slice-read-if6
 shared-slice-read-if6 c = search kit
 
 returns-6 : tie.Need-returns-6
 returns-6 c =
-    let start = c .before .before .before .before .before .before .before .before .before .before .before in
-    let family = start .args .family in
-    let bytes = start .args .s .now in
-    bad-packet family (start .pre) bytes 3 (omega arith) (omega arith) (no-mark family (start .pre) bytes 2 (omega arith) (omega arith) (two (c .before .before .before)) (λ e. c .if6 .taken (e ∙ sym (c .before .before .before .before .before .before .before .before .before .mark-of .ensures))))
+    let found = c .before .before .before in
+    broken (from-two found) 2 (omega arith) (omega arith) (two found) (c .if6 .taken)
 
 returns-7 : tie.Need-returns-7
-returns-7 c =
-    let start = c .before .before .before .before .before .before .before .before .before .before .before .before in
-    let family = start .args .family in
-    let bytes = start .args .s .now in
-    few family (start .pre) bytes 3 (c .if7 .taken) (omega arith) (three (c .before))
+returns-7 c = ended (from-three (c .before)) 3 (c .if7 .taken) (omega arith) (three (c .before))
 
 shared-slice-read-bytes-needed : tie.Need-shared-slice-read-bytes-needed
 shared-slice-read-bytes-needed c = search kit
@@ -92,27 +148,13 @@ bytes-needed-requires : tie.Need-bytes-needed-requires
 bytes-needed-requires c κs = search kit
 
 returns-8 : tie.Need-returns-8
-returns-8 c =
-    let start = c .before .before .before .before .before .before .before .before .before .before .before .before .before .before .before in
-    let family = start .args .family in
-    let bytes = start .args .s .now in
-    bad-packet family (start .pre) bytes 4 (omega arith) (omega arith) (no-count family (start .pre) bytes (omega arith) (three (c .before .before .before .before)) (sym (c .before .bytes-needed .ensures) ∙ c .if8 .taken))
+returns-8 c = not-allowed (c .before) (c .if8 .taken)
 
 returns-9 : tie.Need-returns-9
-returns-9 c =
-    let start = c .before .before .before .before .before .before .before .before .before .before .before .before .before .before .before .before in
-    let family = start .args .family in
-    let bytes = start .args .s .now in
-    undecided family bytes (bytes-missing family (start .pre) bytes (omega arith) (three (c .before .before .before .before .before)) _ (sym (c .before .before .bytes-needed .ensures)) (c .if9 .taken))
+returns-9 c = missing (c .before .before) (c .if9 .taken)
 
 returns-10 : tie.Need-returns-10
-returns-10 c =
-    let start = c .before .before .before .before .before .before .before .before .before .before .before .before .before .before .before .before in
-    let family = start .args .family in
-    let bytes = start .args .s .now in
-    let needed = sym (c .before .before .bytes-needed .ensures) in
-    by-whole family bytes _ (all-there family (start .pre) bytes (omega arith) (three (c .before .before .before .before .before)) _ needed (omega arith) (omega arith))
-    (counted family (start .pre) bytes ∙ needed)
+returns-10 c = whole (c .before .before) (ne-zero (c .before .if8 .left)) (c .if9 .left)
 
 pub examine-packet-spec : {M : Type 1} → statement M
 examine-packet-spec =

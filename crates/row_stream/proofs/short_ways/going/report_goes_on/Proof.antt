@@ -3,7 +3,7 @@
 use mathlib.Core.Path.{sym, ap, _∙_}
 use mathlib.Core.Bool.{false≢true}
 use native.Mathlib.Omega.{arith}
-use Rattle.starts.specs.Begins.{beginsReport}
+use Rattle.spe.specs.Ends.{beginsReport}
 use borrow.Author.Needs.{needs}
 use Rattle.row_stream.proofs.short_ways.going.report_goes_on.Statement.{statement}
 use Rattle.row_stream.proofs.short_ways.going.report_goes_on.Tie as tie

@@ -1,6 +1,6 @@
 -- `short_ways::row_search::first_stop` meets its contract: a whole report is a stop, and else the walk has found it.
 -- Assumes nothing.
-use Rattle.starts.proofs.Beginning.{begun}
+use Rattle.spe.proofs.Beginning.{begun}
 use Rattle.search.proofs.Searching.{begun-whole}
 use borrow.Author.Needs.{needs}
 use Rattle.row_stream.proofs.short_ways.row_search.first_stop.Statement.{statement}

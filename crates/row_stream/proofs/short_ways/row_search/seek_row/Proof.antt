@@ -7,7 +7,7 @@ use lib.Dec.{ltb}
 use lib.ListN.{length}
 use Rattle.frame_laws.proofs.Bytes.{both}
 use Rattle.rows.specs.Rows.{front}
-use Rattle.starts.proofs.Beginning.{begun}
+use Rattle.spe.proofs.Beginning.{begun}
 use Rattle.search.specs.Sought.{soughtIn, Stops}
 use Rattle.row_stream.specs.RowSought.{placeOf, rowOf}
 use Rattle.search.specs.declared.Sought.{Sought}

@@ -1,10 +1,10 @@
--- `starts::begins_report` meets its contract: its tests are those of the rule.
+-- `ends::begins_report` meets its contract: its tests are those of the definition.
 -- Assumes nothing.
 use borrow.Author.Needs.{needs}
 use borrow.Author.Tests.{le-leb, lt-leb}
 use lib.ListN.{length}
-use Rattle.starts.proofs.marks.begins_report.Statement.{statement}
-use Rattle.starts.proofs.marks.begins_report.Tie as tie
+use Rattle.spe.proofs.ends.begins_report.Statement.{statement}
+use Rattle.spe.proofs.ends.begins_report.Tie as tie
 
 returns : tie.Need-returns
 returns c = rw (lt-leb 4 (length (c .before .args .s .now)) (c .if1 .taken))
@@ -22,7 +22,9 @@ shared-slice-read-result-4 : tie.Need-shared-slice-read-result-4
 shared-slice-read-result-4 c = search needs
 
 returns-2 : tie.Need-returns-2
-returns-2 c = rw (le-leb 4 (length (c .before .before .before .before .before .args .s .now)) (c .before .before .before .before .if1 .left))
+returns-2 c =
+    let long = c .before .before .before .before in
+    rw (le-leb 4 (length (long .before .args .s .now)) (long .if1 .left))
 
 pub begins-report-spec : {M : Type 1} → statement M
 begins-report-spec =

@@ -9,7 +9,7 @@ use borrow.Author.Tests.{leb-true, eqb-true}
 use lib.Dec.{eqb, leb}
 use lib.ListN.{length, getD, length-append, List·getD-append}
 use Rattle.frame_laws.proofs.Bytes.{both}
-use Rattle.starts.specs.Begins.{beginsReport}
+use Rattle.spe.specs.Ends.{beginsReport}
 
 pub record Begun (bs : List ℕ) : Type 0 where
   pub there : 4 ≤ length bs
