@@ -4,8 +4,8 @@
 use Prim.Native.Nat.{ℕ, max, _+_, _-_, _^_, _≤_, _<_}
 use mathlib.Core.Path.{_≡_, refl, sym, ap, subst, _∙_}
 use mathlib.Core.Bool.{true}
-use mathlib.Core.List.{List, _++_}
-use native.Mathlib.Nat.{zero-add, add-zero}
+use mathlib.Core.List.{List, [], _++_}
+use native.Mathlib.Nat.{add-zero}
 use native.Mathlib.Omega.{arith}
 use lib.IntN.{ℤ}
 use lib.ListN.{length, take, length-append}
@@ -14,7 +14,7 @@ use Rattle.rules.specs.Bytes.{part}
 use Rattle.rules.specs.Answers.{isFamily}
 use Rattle.stream_rules.specs.Heads.{longest, head}
 use Rattle.stream_rules.specs.Rule.{call}
-use Rattle.stream_rules.specs.Streams.{wrap, fed, filled}
+use Rattle.stream_rules.specs.Streams.{wrap, openCall, fed, filled}
 use Rattle.stream_rules.specs.declared.Reader.{Reader}
 use Rattle.stream_laws.proofs.Heads.{good-head}
 use Rattle.stream_laws.proofs.Looks.{look-ready}
@@ -27,13 +27,20 @@ use Rattle.search.specs.declared.Sought.the-variants.{Ready, Waiting}
 use Rattle.row_stream.specs.declared.short_ways.row_search.Place.{Place}
 use Rattle.rows.specs.Rows.{rowWithout, front}
 use Rattle.stream.specs.Places.{readerAt, fedAt}
-use Rattle.stream.specs.Turns.{turned, callOn, movedStep, Cuts}
-use Rattle.stream.specs.declared.pieces.Cut.{Cut}
-use Rattle.stream.proofs.Cutting.{finds, cut-waiting, cut-ready, turns}
-use Rattle.stream.proofs.Counts.{fedBy, by-call}
+use Rattle.stream.specs.declared.moves.Moved.{Moved}
+use Rattle.stream.specs.Moves.{callOn, Opens}
+use Rattle.stream.proofs.Cutting.{finds, cut-waiting, cut-ready}
+use Rattle.stream.proofs.Opening.{opens-waiting, opens-ready, open-same}
 use Rattle.stream.proofs.Onward.{call-same}
 use Rattle.row_stream.specs.FedRows.{FeedsRow}
 use Rattle.row_stream.proofs.Laid.{with-frame, wanting}
+
+-- how far a place reaches, and how many bytes are left behind it
+abbrev pub behind : Place → ℕ
+behind p = p .start + p .length
+
+abbrev pub left-of : Place → ℕ
+left-of p = p .to - behind p
 
 module _ (family count at skipped : ℕ) (places few bytes : List ℕ) (numbers : List ℤ)
     (a-family : isFamily family ≡ true) (low : count < longest family) (held : count ≤ length places) (are : bytes ≡ take count places ++ few)
@@ -48,39 +55,41 @@ module _ (family count at skipped : ℕ) (places few bytes : List ℕ) (numbers 
   there = omega (arith, ap length are, length-append (take count places) few, size)
 
   -- what a place says of the call: the bytes that it keeps are there, and with the row it is the call on the few
-  pub record FewAt (after : List ℤ) (p : Place) : Type 0 where
-    pub order : p .start + p .length ≤ p .to
-    pub within : p .to ≤ length bytes
-    pub short : p .to - (p .start + p .length) < longest family
-    pub waits : p .length ≡ 0 → (kept : List ℕ) → kept ≡ filled (part (p .start + p .length) (p .to - (p .start + p .length)) bytes)
-        → FeedsRow reader few numbers 0 (readerAt family 0 (p .to - (p .start + p .length)) kept (wrap (at + (p .start + p .length))) (wrap (skipped + (p .start + p .length)))) after
-    pub hands : (p .length ≡ 0 → ⊥) → (kept : List ℕ) → kept ≡ filled (part (p .start + p .length) (p .to - (p .start + p .length)) bytes)
-        → FeedsRow reader few numbers 0 (readerAt family 0 (p .to - (p .start + p .length)) kept (wrap (at + (p .start + p .length))) 0) after
+  abbrev pub Kept : Place → List ℕ → Type 0
+  Kept p kept = kept ≡ filled (part (behind p) (left-of p) bytes)
 
-  -- a cut of the bytes is what the call does
-  cut-fed : (c : Cut) → Cuts family bytes count 0 0 c → (kept : List ℕ) → kept ≡ filled (part (c .from) (c .to - c .from) bytes)
-      → fed reader few ≡ fedAt family 0 kept (movedStep at skipped (c .to - c .from) (c .step))
-  cut-fed c cuts kept is =
-      let turn : record { step = c .step; held = kept; count = c .to - c .from } ≡ turned (call (head family) (take count places) few) =
-      turns family bytes count 0 0 c kept cuts is
-      ∙ ap (λ (n : ℕ). turned (callOn family bytes n)) (sym size)
-      ∙ ap turned (call-same family (take count places) few bytes are) in
+  abbrev Leaves : Place → List ℕ → ℕ → List ℤ → Type 0
+  Leaves p kept passed after = FeedsRow reader few numbers 0 (readerAt family 0 (left-of p) kept (wrap (at + behind p)) passed) after
+
+  pub record FewAt (after : List ℤ) (p : Place) : Type 0 where
+    pub order : behind p ≤ p .to
+    pub within : p .to ≤ length bytes
+    pub short : left-of p < longest family
+    pub waits : p .length ≡ 0 → (kept : List ℕ) → Kept p kept → Leaves p kept (wrap (skipped + behind p)) after
+    pub hands : (p .length ≡ 0 → ⊥) → (kept : List ℕ) → Kept p kept → Leaves p kept 0 after
+
+  -- a call that the bytes make is the call on the few
+  few-fed : (kept : List ℕ) (m : Moved) → Opens family at skipped (callOn family bytes count) kept m → fed reader few ≡ fedAt family 0 kept m
+  few-fed kept m opens =
+      let called = call (head family) (take count places) few in
+      let same : callOn family bytes count ≡ called = ap (callOn family bytes) (sym size) ∙ call-same family (take count places) few bytes are in
       open-call reader few a-family (omega (arith, low)) refl
-      ∙ sym (by-call reader (call (head family) (take count places) few))
-      ∙ ap (fedBy reader) (sym turn)
+      ∙ sym (open-same family 0 count at skipped places called)
+      ∙ ap (openCall (readerAt family 0 0 [] at skipped)) (sym same)
+      ∙ sym (opens 0)
 
   waiting-at : (after : List ℤ) (from : ℕ) → soughtIn family bytes ≡ Waiting from → after ≡ front (rowOf (length bytes) count at skipped (Waiting from)) numbers
       → FewAt after (placeOf (length bytes) count (Waiting from))
   waiting-at after from e stands =
-      let cuts = cut-waiting family bytes count 0 0 there low from e in
+      let cuts = cut-waiting family bytes count there low from e in
       record {
         order = omega (arith, cuts .order);
         within = omega arith;
         short = omega (arith, cuts .short);
         waits = λ none kept is.
-            wanting reader few numbers after room _ _
-            (cut-fed _ cuts kept (is ∙ ap (λ (k : ℕ). filled (part k (length bytes - k) bytes)) (add-zero from)) ∙ simp (zero-add, add-zero))
-            stands;
+            let stays = is ∙ ap (λ (k : ℕ). filled (part k (length bytes - k) bytes)) (add-zero from) in
+            let opens = opens-waiting family at skipped bytes from (length bytes) (cuts .order) (cuts .within) _ kept stays _ _ (cuts .is) in
+            wanting reader few numbers after room _ _ (few-fed kept _ opens ∙ simp add-zero) stands;
         hands = λ some kept is. absurd (some refl);
       }
 
@@ -101,19 +110,20 @@ module _ (family count at skipped : ℕ) (places few bytes : List ℕ) (numbers 
   ready-at : (after : List ℤ) (hit : Hit) → soughtIn family bytes ≡ Ready hit → after ≡ front (rowOf (length bytes) count at skipped (Ready hit)) numbers
       → FewAt after (placeOf (length bytes) count (Ready hit))
   ready-at after hit e stands =
-      let cuts = cut-ready family bytes count 0 0 there low hit (max (hit .reach) count) e refl in
+      let to = max (hit .reach) count in
+      let from = hit .start + hit .length in
+      let cuts = cut-ready family bytes count there low hit to e refl in
       let found = finds family bytes hit e in
-      let frame = good-head family _ (hit .length) (hit .frame) (look-ready (head family) bytes (hit .start) (hit .length) (hit .frame) (found .0) (found .1) .here) in
+      let first = look-ready (head family) bytes (hit .start) (hit .length) (hit .frame) (found .0) (found .1) in
+      let frame = good-head family _ (hit .length) (hit .frame) (first .here) in
       record {
         order = omega (arith, cuts .order);
         within = omega (arith, cuts .within);
         short = omega (arith, cuts .short);
         waits = λ none kept is. absurd (omega (arith, none, frame .some));
         hands = λ some kept is.
-            with-frame reader few numbers after room _
-            (record { taken = max (hit .reach) count - count; start = wrap (at + hit .start); skipped = wrap (skipped + hit .start); length = hit .length; frame = hit .frame })
-            (cut-fed _ cuts kept is ∙ simp zero-add)
-            stands;
+            let opens = opens-ready family at skipped bytes from to (cuts .order) (cuts .within) _ kept is _ _ _ _ (cuts .is) in
+            with-frame reader few numbers after room _ _ (few-fed kept _ opens) stands;
       }
 
   pub few-at : (p : Place) (after : List ℤ) → LaysSought (length bytes) count at skipped (soughtIn family bytes) numbers p after → FewAt after p

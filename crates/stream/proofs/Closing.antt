@@ -1,6 +1,6 @@
--- What the first good frame of the held bytes is to a closed reader, and how much room a call's turn takes.
+-- What the first good frame of the held bytes is to a closed reader.
 -- Assumes nothing.
-use Prim.Native.Nat.{ℕ, _+_, _-_, _^_, _≤_, _<_}
+use Prim.Native.Nat.{ℕ, _+_, _-_, _≤_}
 use mathlib.Core.Path.{_≡_, refl, sym, ap, subst₃, _∙_}
 use mathlib.Core.List.{List, []}
 use native.Mathlib.Nat.{zero-add}
@@ -10,18 +10,15 @@ use lib.Seq.{take-all}
 use Rattle.rules.specs.Bytes.{part}
 use Rattle.rules.specs.declared.Frame.{Frame}
 use Rattle.stream_rules.specs.Heads.{longest, head, atClose}
-use Rattle.stream_rules.specs.Rule.{Look, ready, waiting, look, byLook, Call, gives, wants, call}
+use Rattle.stream_rules.specs.Rule.{Look, ready, waiting, look, byLook}
 use Rattle.stream_laws.proofs.Looks.{look-ready, drained-all}
-use Rattle.stream_laws.proofs.Calls.{gives-adds-up, gives-short, call-gives, wants-short, drain-adds-up}
-use Rattle.stream_laws.proofs.States.{longest-fits}
+use Rattle.stream_laws.proofs.Calls.{drain-adds-up}
 use Rattle.stream_laws.proofs.Families.{facts}
 use Rattle.search.specs.Sought.{firstFrom}
 use Rattle.search.specs.declared.First.the-variants.{At, Nothing}
 use Rattle.stream_rules.specs.Streams.{closedCall, filled}
-use Rattle.stream_rules.specs.declared.Reader.{Reader}
-use Rattle.stream.specs.Turns.{turned, StepFits}
-use Rattle.stream.proofs.Counts.{fedBy}
-use Rattle.stream.specs.declared.pieces.Step.the-variants.{Ready}
+use Rattle.stream.specs.Places.{readerAt, fedAt}
+use Rattle.stream.specs.Moves.{handedOut}
 
 -- The first good frame is there as a whole, and a look at close finds it.
 pub record Drained (family : ℕ) (bs : List ℕ) (start size : ℕ) (f : Frame) : Type 0 where
@@ -60,34 +57,13 @@ module _ (family : ℕ) (bs : List ℕ) where
       case (waiting k rest) is p = let all = drained-all (head family) bs k rest is in is ∙ (λ i. waiting (all .0 i) (all .1 i))
 
 -- The answer with that frame, from the places behind it.
-pub drained-answer : (r : Reader) (bs : List ℕ) (start size : ℕ) (f : Frame) → Drained (r .family) bs start size f → (kept : List ℕ)
-    → kept ≡ filled (part (start + size) (length bs - (start + size)) bs)
-    → fedBy r (record {
-      step = Ready (record { taken = 0; skipped = start; length = size; frame = f });
-      held = kept;
-      count = length bs - (start + size);
-    }) ≡ closedCall r (look (atClose (head (r .family))) bs)
-drained-answer r bs start size f d kept e =
+pub drained-answer : (family closed count at skipped : ℕ) (held bs : List ℕ) (start size : ℕ) (f : Frame) → Drained family bs start size f
+    → (kept : List ℕ) → kept ≡ filled (part (start + size) (length bs - (start + size)) bs)
+    → fedAt family closed kept (handedOut at skipped 0 start size f (length bs - (start + size)))
+    ≡ closedCall (readerAt family closed count held at skipped) (look (atClose (head family)) bs)
+drained-answer family closed count at skipped held bs start size f d kept e =
     let rest = drop (start + size) bs in
     let left : length rest ≡ length bs - (start + size) = length-drop (start + size) bs in
     let places : kept ≡ filled rest = e ∙ ap filled (take-all (length bs - (start + size)) rest (omega (arith, left))) in
-    (λ i. fedBy r (record {
-      step = Ready (record { taken = 0; skipped = start; length = size; frame = f });
-      held = places i;
-      count = sym left i;
-    }))
-    ∙ ap (closedCall r) (sym (d .looks))
-
--- A call keeps what the held places have room for, and its sums can be made.
-pub turn-fits : (family : ℕ) (held offered : List ℕ) → length held < longest family → length offered < 2 ^ 63
-    → (turned (call (head family) held offered) .count ≤ 133) × StepFits (turned (call (head family) held offered) .step)
-turn-fits family held offered p q = case (call (head family) held offered) refl
-  where
-    case : (c : Call) → call (head family) held offered ≡ c → (turned c .count ≤ 133) × StepFits (turned c .step)
-    case (gives taken k n f kept) is =
-        let all = gives-adds-up (head family) (longest family) (facts family) held offered taken k n f kept is in
-        let given = call-gives (head family) (longest family) (facts family) held offered taken k n f kept is in
-        let room = gives-short (head family) (longest family) (facts family) held offered taken k n f kept is p in
-        (omega (arith, room, longest-fits family), omega (arith, all, given .within, longest-fits family))
-    case (wants taken k kept) is =
-        (omega (arith, wants-short (head family) (longest family) (facts family) held offered taken k kept is, longest-fits family), tt)
+    (λ i. fedAt family closed (places i) (handedOut at skipped 0 start size f (sym left i)))
+    ∙ ap (closedCall (readerAt family closed count held at skipped)) (sym (d .looks))

@@ -7,7 +7,7 @@ use lib.ListN.{length}
 use Rattle.stream_rules.specs.declared.Fed.{Fed}
 use Rattle.stream_laws.proofs.Single.{fed-single}
 use Rattle.stream.specs.Places.{readerAt, fedAt, FeedsPlaces}
-use Rattle.stream.specs.declared.feeding.Moved.{Moved}
+use Rattle.stream.specs.declared.moves.Moved.{Moved}
 
 -- what a call left beside the places
 abbrev parts : Fed → Moved

@@ -6,7 +6,7 @@ use lib.ListN.{length}
 use Rattle.stream_rules.specs.Streams.{placeCount, Feeds}
 use Rattle.stream_rules.specs.declared.Reader.{Reader}
 use Rattle.stream_rules.specs.declared.Fed.{Fed}
-use Rattle.stream.specs.declared.feeding.Moved.{Moved}
+use Rattle.stream.specs.declared.moves.Moved.{Moved}
 
 -- the reader of these parts, and what a call that left these places, counts and answer gives back
 abbrev pub readerAt : ℕ → ℕ → ℕ → List ℕ → ℕ → ℕ → Reader

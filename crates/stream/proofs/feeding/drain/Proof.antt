@@ -19,7 +19,9 @@ use Rattle.stream.proofs.feeding.drain.Statement.{statement}
 use Rattle.stream.proofs.feeding.drain.Tie as tie
 
 -- the frame that was found, and how many bytes are held
-found : (c : tie.After-start) → Drained (c .before .before .before .before .before .before .args .family) (c .before .before .before .text .result .now) (c .start .given .0 .0) (c .start .given .0 .1 .0) (c .start .given .0 .1 .1 .0)
+found : (c : tie.After-start)
+    → let t = c .before .before .before in let f = c .start .given .0 in
+    Drained (t .before .before .before .args .family) (t .text .result .now) (f .0) (f .1 .0) (f .1 .1 .0)
 found c = drained _ _ _ _ _ (sym (c .before .before .first-good .ensures) ∙ c .start .given .1)
 
 size : (c : tie.After-text) → length (c .text .result .now) ≡ c .before .before .before .args .count
@@ -50,8 +52,8 @@ sub-left c = found (c .before) .there
 keep-part-requires : tie.Need-keep-part-requires
 keep-part-requires c κs = search needs
 
-answered-requires : tie.Need-answered-requires
-answered-requires c κs =
+handed-out-requires : tie.Need-handed-out-requires
+handed-out-requires c κs =
     let there = found (c .before .before .before) .there in
     let room = few (c .before .before .before .before .before .before) in
     (omega (arith, room), omega (arith, there, room))
@@ -76,27 +78,32 @@ module _ (c : tie.After-keep-part) where
   keeps : c .keep-part .last .0 ≡ filled (part behind (length bytes - behind) bytes)
   keeps =
       let start = text .before .before .before in
+      let left = length bytes - behind in
       c .keep-part .ensures (start .pre .1)
       ∙ ap filled
-      (sym (part-of-front (start .args .held .now) (start .args .count) behind (length bytes - behind) (omega (arith, found (c .before .before .before) .there, size text)))
-      ∙ ap (part behind (length bytes - behind)) (sym (text .text .ensures .content)))
+      (sym (part-of-front (start .args .held .now) (start .args .count) behind left (omega (arith, found (c .before .before .before) .there, size text)))
+      ∙ ap (part behind left) (sym (text .text .ensures .content)))
 
 returns : tie.Need-returns
 returns c = λ closed.
-    let a = c .before .before .before .before .before .before .before .before .before .before .args in
+    let t = text (c .before) in
+    let a = t .before .before .before .args in
     let r = readerAt (a .family) closed (a .count) (a .held .now) (a .at) (a .skipped) in
-    ap (fedAt (a .family) closed (c .before .keep-part .last .0)) (c .answered .ensures)
-    ∙ drained-answer r _ _ _ _ (found (c .before .before .before .before)) _ (keeps (c .before))
-    ∙ ap (λ (l : List ℕ). closedCall r (look (atClose (head (a .family))) l)) (c .before .before .before .before .before .before .before .text .ensures .content)
+    ap (fedAt (a .family) closed (c .before .keep-part .last .0)) (c .handed-out .ensures)
+    ∙ drained-answer (a .family) closed (a .count) (a .at) (a .skipped) (a .held .now) _ _ _ _ (found (c .before .before .before .before)) _ (keeps (c .before))
+    ∙ ap (λ (l : List ℕ). closedCall r (look (atClose (head (a .family))) l)) (t .text .ensures .content)
 
 returns-2 : tie.Need-returns-2
 returns-2 c = λ closed.
-    let a = c .before .before .before .before .before .before .before .before .args in
+    let none = c .before .before in
+    let sought = none .before .before in
+    let t = sought .before in
+    let a = t .before .before .before .args in
     let r = readerAt (a .family) closed (a .count) (a .held .now) (a .at) (a .skipped) in
     ap (fedAt (a .family) closed (zeros 133)) (c .done .ensures)
-    ∙ ap (λ (n : ℕ). closedCall r (waiting n [])) (sym (size (c .before .before .before .before .before)))
-    ∙ ap (closedCall r) (sym (emptied (a .family) _ (sym (c .before .before .before .before .first-good .ensures) ∙ c .before .before .enum-told .given .1)))
-    ∙ ap (λ (l : List ℕ). closedCall r (look (atClose (head (a .family))) l)) (c .before .before .before .before .before .text .ensures .content)
+    ∙ ap (λ (n : ℕ). closedCall r (waiting n [])) (sym (size t))
+    ∙ ap (closedCall r) (sym (emptied (a .family) _ (sym (sought .first-good .ensures) ∙ none .enum-told .given .1)))
+    ∙ ap (λ (l : List ℕ). closedCall r (look (atClose (head (a .family))) l)) (t .text .ensures .content)
 
 pub drain-spec : {M : Type 1} → statement M
 drain-spec =
@@ -108,7 +115,7 @@ drain-spec =
     add-behind
     sub-left
     keep-part-requires
-    answered-requires
+    handed-out-requires
     enum-told
     done-requires
     returns

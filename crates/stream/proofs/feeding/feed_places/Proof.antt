@@ -1,14 +1,14 @@
--- `feeding::feed_places` meets its contract: its tests are the refusals, in their order; behind them a turn is the call, and a drain the
+-- `feeding::feed_places` meets its contract: its tests are the refusals, in their order; behind them an advance is the call, and a drain the
 -- look at close. That the test of the places fails is what the contract takes for granted.
 -- Assumes nothing.
 use Prim.Native.Nat.{ℕ, _≤_, _<_}
-use mathlib.Core.Path.{_≡_, sym, ap, subst, _∙_}
+use mathlib.Core.Path.{_≡_, sym, ap, _∙_}
 use mathlib.Core.Bool.{true}
-use mathlib.Core.List.{List, []}
+use mathlib.Core.List.{[]}
 use native.Mathlib.Omega.{arith}
 use borrow.Author.Needs.{needs}
 use borrow.Author.Tests.{not-true, not-false}
-use lib.ListN.{length, take, length-take, drop-of-length-le}
+use lib.ListN.{length, take, drop-of-length-le}
 use Rattle.rules.specs.Answers.{isFamily}
 use Rattle.stream_rules.specs.Heads.{longest, head}
 use Rattle.stream_rules.specs.Rule.{Call, call}
@@ -19,16 +19,15 @@ use Rattle.stream_laws.proofs.States.{longest-fits, refused-1, refused-6, refus
 use Rattle.stream_laws.proofs.Saying.{feeds}
 use Rattle.stream_laws.proofs.Families.{facts}
 use Rattle.stream.specs.Places.{readerAt, fedAt}
-use Rattle.stream.specs.Turns.{Turn, turned, StepFits}
-use Rattle.stream.proofs.Counts.{fedBy, by-call}
-use Rattle.stream.proofs.Closing.{turn-fits}
+use Rattle.stream.proofs.Opening.{open-same}
 use Rattle.stream.proofs.feeding.feed_places.Statement.{statement}
 use Rattle.stream.proofs.feeding.feed_places.Tie as tie
 
--- the reader of the parts, and the call on it
+-- the reader of the parts
 abbrev reader : tie.Start → Reader
 reader c = readerAt (c .args .family) (c .args .closed) (c .args .count) (c .args .held .now) (c .args .at) (c .args .skipped)
 
+-- and the call on it
 abbrev called : tie.Start → Call
 called c = call (head (c .args .family)) (take (c .args .count) (c .args .held .now)) (c .args .offered .now)
 
@@ -66,9 +65,6 @@ module _ (c : tie.Else3) where
   -- the held bytes are fewer than the longest frame has
   few : start .args .count < longest (start .args .family)
   few = omega (arith, c .if3 .left, c .before .longest-frame .ensures)
-
-  held-few : length (take (start .args .count) (start .args .held .now)) < longest (start .args .family)
-  held-few = omega (arith, few, length-take (start .args .count) (start .args .held .now))
 
 size-requires : tie.Need-size-requires
 size-requires c κs = search needs
@@ -110,23 +106,15 @@ returns-3 c = λ held.
 advance-requires : tie.Need-advance-requires
 advance-requires c κs =
     let passed = c .before .before in
-    ((few passed, omega (arith, few passed, longest-fits (start passed .args .family))), long passed)
-
-answered-requires : tie.Need-answered-requires
-answered-requires c κs =
-    let passed = c .before .before .before in
-    let s = start passed in
-    subst (λ (t : Turn). (t .count ≤ 133) × StepFits (t .step)) (sym (c .advance .ensures))
-    (turn-fits (s .args .family) (take (s .args .count) (s .args .held .now)) (s .args .offered .now) (held-few passed) (omega (arith, s .good)))
+    (few passed, omega (arith, few passed, longest-fits (start passed .args .family)), long passed)
 
 returns-4 : tie.Need-returns-4
 returns-4 c = λ held.
-    let opened = c .before .before .before in
+    let opened = c .before .before in
     let passed = opened .before in
     let s = start passed in
-    feeds (ap (fedAt (s .args .family) (s .args .closed) (c .before .advance .last .1 .0)) (c .answered .ensures)
-    ∙ ap (fedBy (reader s)) (c .before .advance .ensures)
-    ∙ by-call (reader s) (called s)
+    feeds (c .advance .ensures (s .args .closed)
+    ∙ open-same (s .args .family) (s .args .closed) (s .args .count) (s .args .at) (s .args .skipped) (s .args .held .now) (called s)
     ∙ sym (open-call (reader s) (s .args .offered .now) (family passed) (room passed) (opened .if4 .taken)))
 
 refused-requires-4 : tie.Need-refused-requires-4
@@ -168,7 +156,6 @@ feed-places-spec =
     refused-requires-3
     returns-3
     advance-requires
-    answered-requires
     returns-4
     refused-requires-4
     returns-5

@@ -1,39 +1,64 @@
--- `feeding::pieces::take_piece` meets its contract: the buffer is the held bytes and the piece, so the turn of it is that of the call
--- on the piece.
+-- `pieces::take_piece` meets its contract: the buffer is the held bytes and the piece, so the turn of it is the call on the piece.
 -- Assumes nothing.
-use Prim.Native.Nat.{ℕ, _+_}
-use mathlib.Core.Path.{_≡_, sym, ap, _∙_}
+use Prim.Native.Nat.{ℕ, _+_, _≤_}
+use mathlib.Core.Path.{_≡_, sym, ap, subst, _∙_}
 use mathlib.Core.List.{List, _++_}
 use native.Mathlib.Omega.{arith}
 use borrow.Author.Needs.{needs}
 use lib.ListN.{length, take, length-append}
 use lib.Seq.{length-take-le}
 use Rattle.pens.specs.Pens.{laid}
-use Rattle.stream.specs.Turns.{callOn, turned}
+use Rattle.stream_rules.specs.Rule.{Call}
+use Rattle.stream.specs.Moves.{callOn, Opens}
 use Rattle.held_bytes.proofs.Buffers.{zeros, length-zeros, joins}
+use Rattle.stream.proofs.Opening.{from-none}
 use Rattle.stream.proofs.Onward.{call-same}
 use Rattle.stream.proofs.pieces.take_piece.Statement.{statement}
 use Rattle.stream.proofs.pieces.take_piece.Tie as tie
 
 -- the bytes of the buffer
 module _ (c : tie.After-text2) where
+  abbrev second : tie.After-put-bytes2
+  second = c .before .before .before
+
+  abbrev first : tie.After-put-bytes
+  first = second .before .before .before
+
+  abbrev start : tie.Start
+  start = first .before .before .before .before .before .before
+
+  abbrev count : ℕ
+  count = start .args .count
+
   abbrev held : List ℕ
-  held = take (c .before .before .before .before .before .before .before .before .before .before .before .before .args .count) (c .before .before .before .before .before .before .before .before .before .before .before .before .args .held .now)
+  held = take count (start .args .held .now)
 
   abbrev piece : List ℕ
-  piece = c .before .before .before .before .before .before .before .before .before .before .before .before .args .piece .now
+  piece = start .args .piece .now
 
-  size : length held ≡ c .before .before .before .before .before .before .before .before .before .before .before .before .args .count
-  size = length-take-le (c .before .before .before .before .before .before .before .before .before .before .before .before .args .count) (c .before .before .before .before .before .before .before .before .before .before .before .before .args .held .now) (omega (arith, c .before .before .before .before .before .before .before .before .before .before .before .before .pre .0 .1, c .before .before .before .before .before .before .before .before .before .before .before .before .pre .1))
+  abbrev bytes : List ℕ
+  bytes = c .text2 .result .now
 
-  bytes-are : c .text2 .result .now ≡ held ++ piece
+  size : length held ≡ count
+  size = length-take-le count (start .args .held .now) (omega (arith, start .pre .1, start .pre .3))
+
+  room : length held + length piece ≤ length (zeros 266)
+  room = omega (arith, length-zeros 266, size, start .pre .1, start .pre .2)
+
+  -- both are laid into it
+  laid-both : second .put-bytes2 .last .0 ≡ laid count piece (laid 0 held (zeros 266))
+  laid-both =
+      second .put-bytes2 .ensures
+      ∙ ap (laid count piece) (first .put-bytes .ensures ∙ ap (λ (l : List ℕ). laid 0 l (zeros 266)) (first .before .text .ensures .content))
+
+  bytes-are : bytes ≡ held ++ piece
   bytes-are =
       c .text2 .ensures .content
-      ∙ ap (take (c .before .before .before .before .before .before .before .before .before .before .before .before .args .count + length piece)) (c .before .before .before .put-bytes2 .ensures ∙ ap (laid (c .before .before .before .before .before .before .before .before .before .before .before .before .args .count) piece) (c .before .before .before .before .before .before .put-bytes .ensures ∙ ap (λ (l : List ℕ). laid 0 l (zeros 266)) (c .before .before .before .before .before .before .before .text .ensures .content)))
+      ∙ ap (take (count + length piece)) laid-both
       ∙ ap (λ (n : ℕ). take (n + length piece) (laid n piece (laid 0 held (zeros 266)))) (sym size)
-      ∙ joins held piece (zeros 266) (omega (arith, length-zeros 266, size, c .before .before .before .before .before .before .before .before .before .before .before .before .pre .0 .1, c .before .before .before .before .before .before .before .before .before .before .before .before .pre .0 .2))
+      ∙ joins held piece (zeros 266) room
 
-  bytes-length : length (c .text2 .result .now) ≡ c .before .before .before .before .before .before .before .before .before .before .before .before .args .count + length piece
+  bytes-length : length bytes ≡ count + length piece
   bytes-length = ap length bytes-are ∙ length-append held piece ∙ ap (λ (n : ℕ). n + length piece) size
 
 slice-aggregate-put-bytes : tie.Need-slice-aggregate-put-bytes
@@ -62,17 +87,20 @@ text-requires-2 c κs = search needs
 
 turn-of-requires : tie.Need-turn-of-requires
 turn-of-requires c κs =
-    let pre = c .before .before .before .before .before .before .before .before .before .before .before .before .before .pre in
-    let size = bytes-length (c .before) in
-    ((omega (arith, size), pre .0 .0), (omega (arith, size, pre .0 .1, pre .0 .2), omega (arith, size, pre .0 .1, pre .0 .2)))
+    let t = c .before in
+    let pre = start t .pre in
+    let size = bytes-length t in
+    (omega (arith, size), pre .0, omega (arith, size, pre .1, pre .2))
 
 returns : tie.Need-returns
 returns c =
-    let a = c .before .before .before .before .before .before .before .before .before .before .before .before .before .before .args in
-    let bytes = c .before .before .text2 .result .now in
-    c .turn-of .ensures
-    ∙ ap (λ (n : ℕ). turned (callOn (a .family) bytes n)) (sym (size (c .before .before)))
-    ∙ ap turned (call-same (a .family) (take (a .count) (a .held .now)) (a .piece .now) bytes (bytes-are (c .before .before)))
+    let t = c .before .before in
+    let a = start t .args in
+    let is =
+    from-none _
+    ∙ ap (callOn (a .family) (bytes t)) (sym (size t))
+    ∙ call-same (a .family) (held t) (piece t) (bytes t) (bytes-are t) in
+    subst (λ (x : Call). Opens (a .family) (a .at) (a .skipped) x (c .turn-of .last .1 .1 .1 .1 .1 .1 .0) (c .turn-of .result)) is (c .turn-of .ensures)
 
 pub take-piece-spec : {M : Type 1} → statement M
 take-piece-spec =

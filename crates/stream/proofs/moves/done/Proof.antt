@@ -1,9 +1,9 @@
--- `feeding::done` meets its contract: nothing is kept, and both counts go on by what was skipped.
+-- `moves::done` meets its contract: nothing is kept, and both counts go on by what was skipped.
 -- Assumes nothing.
 use borrow.Author.Needs.{needs}
 use Rattle.stream_rules.specs.declared.Answer.the-variants.{Done}
-use Rattle.stream.proofs.feeding.done.Statement.{statement}
-use Rattle.stream.proofs.feeding.done.Tie as tie
+use Rattle.stream.proofs.moves.done.Statement.{statement}
+use Rattle.stream.proofs.moves.done.Tie as tie
 
 advanced-requires : tie.Need-advanced-requires
 advanced-requires c κs = search needs
