@@ -89,11 +89,18 @@ module _ (family : ℕ) (capture : RefT (List ℕ)) (place : ℕ) where
           ((λ i. part (sym same-start i) (sym same-size i) bs) ∙ ap (take n) (sym (drop-drop k place bs)), sym same-start)
 
 -- where the walk has answered, the tests have passed
-passed : (c : tie.After-first-good) → tests (c .before .before .before .before .before .before .args .family) (c .before .before .before .before .before .before .args .capture) (c .before .before .before .before .before .before .args .place) ≡ true
+abbrev begin : tie.After-first-good → tie.Start
+begin c = c .before .before .before .before .before .before
+
+passed : (c : tie.After-first-good) → tests (begin c .args .family) (begin c .args .capture) (begin c .args .place) ≡ true
 passed c =
-    let a = c .before .before .before .before .before .before .args in
-    both-pass _ _ (both-pass _ _ (sym (c .before .before .before .before .is-family .ensures) ∙ not-false _ (c .before .before .before .if1 .left))
-    (le-leb (length (a .capture .now)) 65536 (c .before .before .if2 .left))) (le-leb (a .place) (length (a .capture .now)) (c .before .if3 .left))
+    let a = begin c .args in
+    let inside = c .before in
+    let short = inside .before in
+    let named = short .before in
+    let known = sym (named .before .is-family .ensures) ∙ not-false _ (named .if1 .left) in
+    let fit = le-leb (length (a .capture .now)) 65536 (short .if2 .left) in
+    both-pass _ _ (both-pass _ _ known fit) (le-leb (a .place) (length (a .capture .now)) (inside .if3 .left))
 
 is-family-requires : tie.Need-is-family-requires
 is-family-requires c κs = search needs
