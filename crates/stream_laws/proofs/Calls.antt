@@ -12,7 +12,8 @@ use Rattle.rules.specs.declared.Frame.{Frame}
 use Rattle.stream_rules.specs.Heads.{Head, atClose}
 use Rattle.stream_rules.specs.Rule.{Look, ready, waiting, byLook, look, rule, Call, gives, wants, took, call}
 use Rattle.stream_laws.proofs.Facts.{Facts, short}
-use Rattle.stream_laws.proofs.Looks.{FrameFirst, OpenFirst, look-ready, look-waiting, found, goesOn, drains, beyond, further, closed-good, rule-look, rule-drains, look-on, kept-waits, drained-all, frame-adds-up, open-adds-up}
+use Rattle.stream_laws.proofs.Looks.{FrameFirst, OpenFirst, look-ready, look-waiting, found, goesOn, drains, beyond, further}
+use Rattle.stream_laws.proofs.Looks.{closed-good, rule-look, rule-drains, look-on, kept-waits, drained-all, frame-adds-up, open-adds-up}
 
 -- no frame is ready
 abbrev pub Waits : Look → Type 0

@@ -33,7 +33,9 @@ Runs r left sizes = (more : List ℕ) × (answers : List Answer) × Session r le
 run-call : (r : Reader) (left : List ℕ) (size : ℕ) (sizes : List ℕ) (a : Fed) → fed r (take size left) ≡ a
     → Runs (a .reader) (drop (takenOf (a .answer)) left) sizes → Runs r left (size ∷ sizes)
 run-call r left size sizes a e (more, answers, session) =
-    (more, (fed r (take size left)) .answer ∷ answers, Session.calls size (fed r (take size left)) refl (subst (λ (b : Fed). Session (b .reader) (drop (takenOf (b .answer)) left) (sizes ++ more) answers) (sym e) session))
+    let now = fed r (take size left) in
+    let then = subst (λ (b : Fed). Session (b .reader) (drop (takenOf (b .answer)) left) (sizes ++ more) answers) (sym e) session in
+    (more, now .answer ∷ answers, Session.calls size now refl then)
 
 module _ (family : ℕ) (known : isFamily family ≡ true) (facts : Facts (head family) (longest family)) where
   drain-next : (fuel : ℕ) → ((bytes : List ℕ) (at skipped : ℕ) → length bytes < fuel → length bytes < longest family → Drains family bytes at skipped)
@@ -95,7 +97,10 @@ module _ (family : ℕ) (known : isFamily family ≡ true) (facts : Facts (head 
   finish zero bytes at skipped left p few = absurd (omega arith)
   finish (suc fuel) bytes at skipped left p few =
       let c : Call = call (head family) bytes (take (length left) left) in
-      let (more, answers, session) = run-call (holding family 0 bytes (wrap at) (wrap skipped)) left (length left) [] (openFed family at skipped c) (fed-open family known bytes few at skipped (take (length left) left)) (offer-all fuel (finish fuel) bytes at skipped left p few c refl) in
+      let is-open = fed-open family known bytes few at skipped (take (length left) left) in
+      let then = offer-all fuel (finish fuel) bytes at skipped left p few c refl in
+      let (more, answers, session) =
+      run-call (holding family 0 bytes (wrap at) (wrap skipped)) left (length left) [] (openFed family at skipped c) is-open then in
       (length left ∷ more, answers, session)
 
   -- The first calls have the sizes given.
@@ -115,7 +120,9 @@ module _ (family : ℕ) (known : isFamily family ≡ true) (facts : Facts (head 
   begin [] bytes at skipped left few = finish (suc (length bytes + length left)) bytes at skipped left (omega arith) few
   begin (size ∷ sizes) bytes at skipped left few =
       let c : Call = call (head family) bytes (take size left) in
-      run-call (holding family 0 bytes (wrap at) (wrap skipped)) left size sizes (openFed family at skipped c) (fed-open family known bytes few at skipped (take size left)) (begin-call sizes (begin sizes) bytes at skipped left size few c refl)
+      let is-open = fed-open family known bytes few at skipped (take size left) in
+      let then = begin-call sizes (begin sizes) bytes at skipped left size few c refl in
+      run-call (holding family 0 bytes (wrap at) (wrap skipped)) left size sizes (openFed family at skipped c) is-open then
 
 -- For every stream and all sizes of the first calls there is a session.
 pub possible : (family : ℕ) → isFamily family ≡ true → Facts (head family) (longest family)

@@ -58,7 +58,8 @@ unfolding shut
 shuts {r} e = record { answers = e; says = ap (λ (x : Turned). saidToTurn (x .outcome)) e ∙ case (isFamily (r .family)) (leb (r .count) (holds (r .family))) }
   where
     case : (a b : Bool)
-        → saidToTurn (cond (not a) (turned r (NotAccepted noFamily)) (cond (not b) (turned r (NotAccepted holdsTooMuch)) (turned (holding (r .family) 1 (heldOf r) (r .at) (r .skipped)) Accepted)) .outcome)
+        → let closed : Turned = turned (holding (r .family) 1 (heldOf r) (r .at) (r .skipped)) Accepted in
+        saidToTurn (cond (not a) (turned r (NotAccepted noFamily)) (cond (not b) (turned r (NotAccepted holdsTooMuch)) closed) .outcome)
         ≡ cond (not a) (no noFamily) (cond (not b) (no holdsTooMuch) (yes accepted []))
     case false b = refl
     case true false = refl

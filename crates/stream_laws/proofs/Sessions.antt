@@ -25,7 +25,8 @@ use Rattle.stream_rules.specs.declared.Turned.{Turned}
 use Rattle.stream_laws.specs.Sessions.{Draining, Session, Tells, Demand3, takenOf, wrapped, InTime}
 use Rattle.stream_laws.proofs.Facts.{Facts, top-above}
 use Rattle.stream_laws.proofs.Looks.{found}
-use Rattle.stream_laws.proofs.Calls.{call-gives, gives-adds-up, gives-in-time, gives-short, rule-gives, call-wants, wants-adds-up, wants-short, rule-wants, rule-drain, drain-adds-up, rule-drained, drained-adds-up}
+use Rattle.stream_laws.proofs.Calls.{call-gives, gives-adds-up, gives-in-time, gives-short, rule-gives, call-wants}
+use Rattle.stream_laws.proofs.Calls.{wants-adds-up, wants-short, rule-wants, rule-drain, drain-adds-up, rule-drained, drained-adds-up}
 use Rattle.stream_laws.proofs.States.{wrap-on, held-of-holding, open-call, closed-call, shut-call}
 
 -- What a call of an open reader gives, when its first byte's place and the bytes skipped are these, not yet wrapped.

@@ -7,7 +7,7 @@ use native.Mathlib.Omega.{arith}
 use borrow.Author.Needs.{needs}
 use borrow.Author.Tests.{not-true}
 use mathlib.Core.List.{List}
-use lib.ListN.{length, drop}
+use lib.ListN.{length, take, drop}
 use lib.Seq.{drop-drop}
 use Rattle.stream_rules.specs.Heads.{payloadRun}
 use Rattle.stream_laws.proofs.Lists.{whole-rest}
@@ -23,38 +23,52 @@ Inv-loop capture starts₀ at₀ n₀ starts at n = Filled 2 capture starts₀ s
 abbrev μ-loop : tie.MeasureT-loop
 μ-loop capture starts₀ at₀ n₀ starts at n = length capture - at
 
+-- What is known at each turn: the capture, and the start that the walk has come to.
+module _ (k : tie.At-loop Inv-loop μ-loop) where
+  abbrev start : tie.Start Inv-loop μ-loop
+  start = k .before .before .before
+
+  abbrev bytes : List ℕ
+  bytes = start .args .capture .now
+
+  abbrev at : ℕ
+  at = k .loop .at
+
+  -- a call is lent the bytes from there on
+  lent : take (length bytes - at) (drop at bytes) ≡ drop at bytes
+  lent = whole-rest bytes at
+
 -- the run behind `at`
-counted : (c : tie.After-payload-bytes Inv-loop μ-loop)
-    → c .payload-bytes .result ≡ min (length (payloadRun (drop 1 (drop (c .before .before .before .before .before .before .before .before .loop .at) (c .before .before .before .before .before .before .before .before .before .before .before .args .capture .now))))) 129
-counted c =
-    let s = c .before .before .before .before .before .before .before .before .before .before .before .args .capture .now in
-    let at = c .before .before .before .before .before .before .before .before .loop .at in
-    c .payload-bytes .ensures ∙ ap (λ (l : List ℕ). min (length (payloadRun l)) 129) (whole-rest s (at + 1) ∙ sym (drop-drop 1 at s))
+module _ (c : tie.After-payload-bytes Inv-loop μ-loop) where
+  abbrev turn : tie.At-loop Inv-loop μ-loop
+  turn = c .before .before .before .before .before .before .before .before
+
+  counted : c .payload-bytes .result ≡ min (length (payloadRun (drop 1 (drop (at turn) (bytes turn))))) 129
+  counted =
+      c .payload-bytes .ensures
+      ∙ ap (λ (l : List ℕ). min (length (payloadRun l)) 129) (whole-rest (bytes turn) (at turn + 1) ∙ sym (drop-drop 1 (at turn) (bytes turn)))
 
 -- what stands at `at`
 module _ (c : tie.Else3 Inv-loop μ-loop) where
-  abbrev start : tie.Start Inv-loop μ-loop
-  start = c .before .before .before .before .before .before .before .before .before .before .before .before .before .before
+  abbrev before : tie.At-loop Inv-loop μ-loop
+  before = turn (c .before .before .before)
 
   abbrev size : ℕ
   size = c .before .sentence-size .result
 
-  is-size : size ≡ sizeAt 2 (drop (c .before .before .before .before .before .before .before .before .before .before .before .loop .at) (start .args .capture .now))
-  is-size = c .before .sentence-size .ensures ∙ ap (sizeAt 2) (whole-rest (start .args .capture .now) (c .before .before .before .before .before .before .before .before .before .before .before .loop .at))
+  is-size : size ≡ sizeAt 2 (drop (at before) (bytes before))
+  is-size = c .before .sentence-size .ensures ∙ ap (sizeAt 2) (lent before)
 
-  within : c .before .before .before .before .before .before .before .before .before .before .before .loop .at + size ≤ length (start .args .capture .now)
-  within = inside _ _ _ _ _ _ (c .before .before .before .before .before .before .before .before .before .before .before .loop .inv) size is-size (c .if3 .left)
+  within : at before + size ≤ length (bytes before)
+  within = inside _ _ _ _ _ _ (before .loop .inv) size is-size (c .if3 .left)
 
 -- where a start has been noted
 module _ (c : tie.After-slice-known2 Inv-loop μ-loop) where
   abbrev frame : tie.Else3 Inv-loop μ-loop
   frame = c .before .before .before .before
 
-  abbrev before : tie.At-loop Inv-loop μ-loop
-  before = frame .before .before .before .before .before .before .before .before .before .before .before
-
-  small : (before .loop .at + size frame ≤ 65536) × (before .loop .n ≤ before .loop .at)
-  small = (omega (arith, within frame, start frame .pre), before .loop .inv .few)
+  small : (at (before frame) + size frame ≤ 65536) × (before frame .loop .n ≤ at (before frame))
+  small = (omega (arith, within frame, start (before frame) .pre), before frame .loop .inv .few)
 
 loop-holds : tie.Need-loop-holds Inv-loop μ-loop
 loop-holds c = nothing-filled _ _ _
@@ -126,8 +140,8 @@ part-sentence-size-end c = omega arith
 
 sentence-size-requires : tie.Need-sentence-size-requires Inv-loop μ-loop
 sentence-size-requires c κs =
-    counted (c .before)
-    ∙ ap (λ (l : List ℕ). min (length (payloadRun (drop 1 l))) 129) (sym (whole-rest (c .before .before .before .before .before .before .before .before .before .before .before .before .args .capture .now) (c .before .before .before .before .before .before .before .before .before .loop .at)))
+    let k = turn (c .before) in
+    counted (c .before) ∙ ap (λ (l : List ℕ). min (length (payloadRun (drop 1 l))) 129) (sym (lent k))
 
 add-at-3 : tie.Need-add-at-3 Inv-loop μ-loop
 add-at-3 c = omega arith
@@ -140,15 +154,14 @@ loop-less-3 c = omega arith
 
 loop-again-3 : tie.Need-loop-again-3 Inv-loop μ-loop
 loop-again-3 c =
-    let a = c .before .before .before .before .before .before .before .before .before .before .before .before .before .before .args in
-    let loop = c .before .before .before .before .before .before .before .before .before .before .before .loop in
     let run = c .before .before .before in
-    passed _ _ _ _ _ _ (loop .inv) _
-    (over-run (a .capture .now) (loop .at) (run .payload-bytes .result) (omega arith) (omega (arith, counted run))
-    (sym (c .if3 .taken) ∙ c .before .sentence-size .ensures ∙ ap (sizeAt 2) (whole-rest (a .capture .now) (loop .at))))
+    let k = turn run in
+    passed _ _ _ _ _ _ (k .loop .inv) _
+    (over-run (bytes k) (at k) (run .payload-bytes .result) (omega arith) (omega (arith, counted run))
+    (sym (c .if3 .taken) ∙ c .before .sentence-size .ensures ∙ ap (sizeAt 2) (lent k)))
 
 note-requires : tie.Need-note-requires Inv-loop μ-loop
-note-requires c κs = omega (arith, within (c .before), start (c .before) .pre)
+note-requires c κs = omega (arith, within (c .before), start (before (c .before)) .pre)
 
 add-n : tie.Need-add-n Inv-loop μ-loop
 add-n c = omega (arith, small c)
@@ -162,7 +175,7 @@ loop-less-4 c = omega (arith, within (frame c), frame c .if3 .left)
 loop-again-4 : tie.Need-loop-again-4 Inv-loop μ-loop
 loop-again-4 c =
     rw (c .before .before .note .ensures)
-    (filled-in _ _ _ _ _ _ (before c .loop .inv) (size (frame c)) (is-size (frame c)) (frame c .if3 .left))
+    (filled-in _ _ _ _ _ _ (before (frame c) .loop .inv) (size (frame c)) (is-size (frame c)) (frame c .if3 .left))
 
 same-length : tie.Need-same-length Inv-loop μ-loop
 same-length c = c .before .loop .inv .same

@@ -15,6 +15,7 @@ use Rattle.stream_rules.specs.Lister.{frames, startsOf, fits, Lists}
 use Rattle.stream_rules.specs.declared.Listed.{Listed}
 use Rattle.stream_rules.specs.declared.Listed.the-variants.{Count, Refused}
 use Rattle.stream_laws.proofs.Saying.{lists}
+use Rattle.captures.specs.Fills.{Fills}
 use Rattle.captures.proofs.Walk.{few-frames}
 use Rattle.captures.proofs.lister.list_frames.Statement.{statement}
 use Rattle.captures.proofs.lister.list_frames.Tie as tie
@@ -52,6 +53,30 @@ room-for-all family bs out h = omega (arith, few-frames family bs, h)
 a-family : (c : tie.Else1) → isFamily (c .before .before .before .before .args .family) ≡ true
 a-family c = sym (c .before .is-family .ensures) ∙ not-false _ (c .if1 .left)
 
+-- and that of the capture's length too: what is filled in is the answer, where there is room
+module _ (k : tie.Else2) where
+  abbrev family : ℕ
+  family = k .before .before .before .before .before .args .family
+
+  abbrev capture : List ℕ
+  capture = k .before .before .before .before .before .args .capture .now
+
+  abbrev starts : List ℕ
+  starts = k .before .before .before .before .before .args .starts .now
+
+  abbrev all : ℕ
+  all = length (frames family capture)
+
+  known : isFamily family ≡ true
+  known = a-family (k .before)
+
+  fit : fits capture ≡ true
+  fit = le-leb (length capture) 65536 (k .if2 .left)
+
+  answered : (n : ℕ) (after : List ℕ) → Fills family capture starts n after → all ≤ length starts → Lists family capture starts (Count n) after
+  answered n after done enough =
+      counts family capture starts known fit (le-leb all (length starts) enough) n after (done .count) (done .content enough)
+
 is-family-requires : tie.Need-is-family-requires
 is-family-requires c κs = search needs
 
@@ -73,21 +98,18 @@ same-length c = search needs
 
 returns-3 : tie.Need-returns-3
 returns-3 c =
-    let a = c .before .before .before .before .before .before .before .before .before .before .args in
-    let done = c .before .before .fill-starts .ensures in
-    let room = room-for-all (a .family) (a .capture .now) (a .starts .now) (c .before .before .before .before .if3 .taken) in
-    counts (a .family) (a .capture .now) (a .starts .now) (a-family (c .before .before .before .before .before .before)) (le-leb (length (a .capture .now)) 65536 (c .before .before .before .before .before .if2 .left))
-    (le-leb (length (frames (a .family) (a .capture .now))) (length (a .starts .now)) room) _ _ (done .count) (done .content room)
+    let roomy = c .before .before .before .before in
+    let k = roomy .before in
+    answered k _ _ (c .before .before .fill-starts .ensures) (room-for-all (family k) (capture k) (starts k) (roomy .if3 .taken))
 
 count-frames-requires : tie.Need-count-frames-requires
 count-frames-requires c κs = (a-family (c .before .before), c .before .if2 .left)
 
 returns-4 : tie.Need-returns-4
 returns-4 c =
-    let a = c .before .before .before .before .before .before .before .before .args in
-    let n = length (frames (a .family) (a .capture .now)) in
-    no-room (a .family) (a .capture .now) (a .starts .now) (a-family (c .before .before .before .before)) (le-leb (length (a .capture .now)) 65536 (c .before .before .before .if2 .left))
-    (lt-leb n (length (a .starts .now)) (omega (arith, c .if4 .taken, c .before .count-frames .ensures)))
+    let k = c .before .before .before in
+    no-room (family k) (capture k) (starts k) (known k) (fit k)
+    (lt-leb (all k) (length (starts k)) (omega (arith, c .if4 .taken, c .before .count-frames .ensures)))
 
 fill-starts-requires-2 : tie.Need-fill-starts-requires-2
 fill-starts-requires-2 c κs = (a-family (c .before .before .before .before .before), c .before .before .before .before .if2 .left)
@@ -97,12 +119,10 @@ same-length-2 c = search needs
 
 returns-5 : tie.Need-returns-5
 returns-5 c =
-    let a = c .before .before .before .before .before .before .before .before .before .before .before .before .args in
-    let n = length (frames (a .family) (a .capture .now)) in
-    let done = c .before .before .fill-starts2 .ensures in
-    let room : n ≤ length (a .starts .now) = omega (arith, c .before .before .before .before .if4 .left, c .before .before .before .before .before .count-frames .ensures) in
-    counts (a .family) (a .capture .now) (a .starts .now) (a-family (c .before .before .before .before .before .before .before .before)) (le-leb (length (a .capture .now)) 65536 (c .before .before .before .before .before .before .before .if2 .left))
-    (le-leb n (length (a .starts .now)) room) _ _ (done .count) (done .content room)
+    let enough = c .before .before .before .before in
+    let k = enough .before .before .before in
+    let room-there : all k ≤ length (starts k) = omega (arith, enough .if4 .left, enough .before .count-frames .ensures) in
+    answered k _ _ (c .before .before .fill-starts2 .ensures) room-there
 
 pub list-frames-spec : {M : Type 1} → statement M
 list-frames-spec =

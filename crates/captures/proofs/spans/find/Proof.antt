@@ -87,9 +87,36 @@ Inv-loop family capture place reports none at₀ at = nextIn family capture plac
 abbrev μ-loop : tie.MeasureT-loop
 μ-loop family capture place reports none at₀ at = length capture - at
 
+-- What is known at each turn: what is wanted, of which capture, and the place that the walk has come to.
+module _ (k : tie.At-loop Inv-loop μ-loop) where
+  abbrev start : tie.Start Inv-loop μ-loop
+  start = k .before .before .before .before .before
+
+  abbrev family : ℕ
+  family = start .args .family
+
+  abbrev capture : List ℕ
+  capture = start .args .capture .now
+
+  abbrev place : ℕ
+  place = start .args .place
+
+  abbrev reports : Bool
+  reports = start .args .reports
+
+  abbrev at : ℕ
+  at = k .loop .at
+
 -- the frame that was found is the next
-found : (c : tie.After-start Inv-loop μ-loop) → Next (c .before .before .before .before .before .before .before .before .before .args .family) (c .before .before .before .before .before .before .before .before .before .args .capture .now) (c .before .before .before .before .loop .at) (c .start .given .0 .0) (c .start .given .0 .1 .0) (c .start .given .0 .1 .1 .0)
-found c = next _ _ _ _ _ _ (sym (c .before .before .first-good .ensures) ∙ c .start .given .1)
+module _ (c : tie.After-start Inv-loop μ-loop) where
+  abbrev turn : tie.At-loop Inv-loop μ-loop
+  turn = c .before .before .before .before
+
+  abbrev frame : Frame
+  frame = c .start .given .0 .1 .1 .0
+
+  found : Next (family turn) (capture turn) (at turn) (c .start .given .0 .0) (c .start .given .0 .1 .0) frame
+  found = next _ _ _ _ _ _ (sym (c .before .before .first-good .ensures) ∙ c .start .given .1)
 
 is-family-requires : tie.Need-is-family-requires Inv-loop μ-loop
 is-family-requires c κs = search needs
@@ -107,7 +134,9 @@ returns-2 c =
 loop-holds : tie.Need-loop-holds Inv-loop μ-loop
 loop-holds c =
     let a = c .before .before .before .before .args in
-    begins (a .family) (a .capture .now) (a .place) (a .reports) (sym (c .before .before .is-family .ensures) ∙ not-false _ (c .before .if1 .left)) (le-leb (length (a .capture .now)) 65536 (c .if2 .left))
+    let known = sym (c .before .before .is-family .ensures) ∙ not-false _ (c .before .if1 .left) in
+    let fit = le-leb (length (a .capture .now)) 65536 (c .if2 .left) in
+    begins (a .family) (a .capture .now) (a .place) (a .reports) known fit
 
 first-good-requires : tie.Need-first-good-requires Inv-loop μ-loop
 first-good-requires c κs = search needs
@@ -120,9 +149,9 @@ enum-told c = search needs
 
 returns-3 : tie.Need-returns-3 Inv-loop μ-loop
 returns-3 c =
-    let a = c .before .before .before .before .before .before .before .before .before .args in
-    let loop = c .before .before .before .before .loop in
-    none-left (a .family) (a .capture .now) (a .place) (a .reports) (loop .at) (loop .inv) (no-next (a .family) (a .capture .now) (loop .at) (sym (c .before .before .first-good .ensures) ∙ c .enum-told .given .1))
+    let k = c .before .before .before .before in
+    let none = no-next (family k) (capture k) (at k) (sym (c .before .before .first-good .ensures) ∙ c .enum-told .given .1) in
+    none-left (family k) (capture k) (place k) (reports k) (at k) (k .loop .inv) none
 
 add-at : tie.Need-add-at Inv-loop μ-loop
 add-at c = let n = found (c .before) in omega (arith, n .there)
@@ -135,27 +164,28 @@ loop-less c = let n = found (c .before .before .before) in omega (arith, n .plac
 
 loop-again : tie.Need-loop-again Inv-loop μ-loop
 loop-again c =
-    let a = c .before .before .before .before .before .before .before .before .before .before .before .before .args in
-    let loop = c .before .before .before .before .before .before .before .loop in
-    passed-over (a .family) (a .capture .now) (a .place) (a .reports) (loop .at) _ _ _ (loop .inv) (found (c .before .before .before)) (c .before .if3 .taken) (not-report (c .before .before .before .start .given .0 .1 .1 .0) (c .match2 .keys2))
+    let other = c .before .before .before in
+    let k = turn other in
+    passed-over (family k) (capture k) (place k) (reports k) (at k) _ _ _ (k .loop .inv) (found other)
+    (c .before .if3 .taken) (not-report (frame other) (c .match2 .keys2))
 
 returns-4 : tie.Need-returns-4 Inv-loop μ-loop
 returns-4 c =
-    let a = c .before .before .before .before .before .before .before .before .before .before .before .before .before .args in
-    let loop = c .before .before .before .before .before .before .before .before .loop in
-    wanted-report (a .family) (a .capture .now) (a .place) (a .reports) (loop .at) _ _ _ (loop .inv) (found (c .before .before .before .before)) (ap isReport (c .enum-told2 .given .1))
+    let report = c .before .before .before .before in
+    let k = turn report in
+    wanted-report (family k) (capture k) (place k) (reports k) (at k) _ _ _ (k .loop .inv) (found report) (ap isReport (c .enum-told2 .given .1))
 
 returns-5 : tie.Need-returns-5 Inv-loop μ-loop
 returns-5 c =
-    let a = c .before .before .before .before .before .before .before .before .before .before .before .args in
-    let loop = c .before .before .before .before .before .before .loop in
-    wanted-any (a .family) (a .capture .now) (a .place) (a .reports) (loop .at) _ _ _ (loop .inv) (found (c .before .before)) (c .if3 .left)
+    let any = c .before .before in
+    let k = turn any in
+    wanted-any (family k) (capture k) (place k) (reports k) (at k) _ _ _ (k .loop .inv) (found any) (c .if3 .left)
 
 returns-6 : tie.Need-returns-6 Inv-loop μ-loop
 returns-6 c =
-    let a = c .before .before .before .before .before .before .args in
-    let loop = c .before .loop in
-    none-left (a .family) (a .capture .now) (a .place) (a .reports) (loop .at) (loop .inv) (at-end (a .family) (a .capture .now) (loop .at) (c .loop-test .left))
+    let k = c .before in
+    let none = at-end (family k) (capture k) (at k) (c .loop-test .left) in
+    none-left (family k) (capture k) (place k) (reports k) (at k) (k .loop .inv) none
 
 pub find-spec : {M : Type 1} → statement M
 find-spec =

@@ -25,7 +25,9 @@ returns c =
     let start = c .before .before .before .before in
     let a = start .args in (
       omega (arith, c .past-marks .ensures .on),
-      further 3 (a .s .now) (a .from) (a .from + 4) _ (over-four 3 refl (a .s .now) (a .from) (omega (arith, start .pre .0)) (c .before .if1 .taken) (start .pre .1)) (c .past-marks .ensures),
+      further 3 (a .s .now) (a .from) (a .from + 4) _
+          (over-four 3 refl (a .s .now) (a .from) (omega (arith, start .pre .0)) (c .before .if1 .taken) (start .pre .1))
+          (c .past-marks .ensures),
     )
 
 add-past-marks-2 : tie.Need-add-past-marks-2

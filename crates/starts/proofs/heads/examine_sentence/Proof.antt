@@ -2,11 +2,12 @@
 -- at 129 tells as much of the payload bytes as the rules ask.
 -- Assumes nothing.
 use Prim.Native.Nat.{ℕ, _+_, min}
+use Prim.Native.Char.{code}
 use mathlib.Core.Path.{_≡_, ap, _∙_}
 use mathlib.Core.List.{List}
 use native.Mathlib.Omega.{arith}
 use borrow.Author.Needs.{needs}
-use lib.ListN.{length}
+use lib.ListN.{length, getD}
 use Rattle.stream_rules.specs.Heads.{payloadRun}
 use Rattle.stream_laws.proofs.Lists.{whole-rest}
 use Rattle.stream_laws.proofs.Runs.{run}
@@ -15,15 +16,19 @@ use Rattle.starts.proofs.Seeing.{undecided, bad-start, by-whole}
 use Rattle.starts.proofs.heads.examine_sentence.Statement.{statement}
 use Rattle.starts.proofs.heads.examine_sentence.Tie as tie
 
--- the count of payload bytes behind the first byte
-counted : (c : tie.After-payload-bytes) → c .payload-bytes .result ≡ min (run (c .before .before .before .before .before .before .args .s .now)) 129
-counted c =
-    let bytes = c .before .before .before .before .before .before .args .s .now in
-    c .payload-bytes .ensures
-    ∙ ap (λ (l : List ℕ). min (length (payloadRun l)) 129) (whole-rest bytes 1)
+-- With a `$` in front: the bytes, and the count of payload bytes behind it,
+module _ (k : tie.After-payload-bytes) where
+  abbrev bytes : List ℕ
+  bytes = k .before .before .before .before .before .before .args .s .now
 
--- where it is at most 128, it is the run itself
-exact : (c : tie.Else3) → run (c .before .before .before .before .before .before .before .args .s .now) ≡ c .before .payload-bytes .result
+  dollar : getD bytes 0 0 ≡ code "$"
+  dollar = k .before .before .if2 .left
+
+  counted : k .payload-bytes .result ≡ min (run bytes) 129
+  counted = k .payload-bytes .ensures ∙ ap (λ (l : List ℕ). min (length (payloadRun l)) 129) (whole-rest bytes 1)
+
+-- which is the run itself where it is at most 128.
+exact : (c : tie.Else3) → run (bytes (c .before)) ≡ c .before .payload-bytes .result
 exact c = omega (arith, counted (c .before))
 
 returns : tie.Need-returns
@@ -53,16 +58,17 @@ payload-bytes-requires c κs = search needs
 
 returns-3 : tie.Need-returns-3
 returns-3 c =
-    let bytes = c .before .before .before .before .before .before .before .args .s .now in
-    bad-start 2 bytes 130 (too-long bytes (c .before .before .before .if2 .left) (omega (arith, counted (c .before)))) (λ same. omega (arith, same, counted (c .before)))
+    let k = c .before in
+    bad-start 2 (bytes k) 130 (too-long (bytes k) (dollar k) (omega (arith, counted k))) (λ same. omega (arith, same, counted k))
 
 add-if4 : tie.Need-add-if4
 add-if4 c = search needs
 
 returns-4 : tie.Need-returns-4
 returns-4 c =
-    let bytes = c .before .before .before .before .before .before .before .before .args .s .now in
-    undecided 2 bytes (payload-open bytes (c .before .before .before .before .if2 .left) _ (exact (c .before)) (omega arith) (c .if4 .taken))
+    let short = c .before in
+    let k = short .before in
+    undecided 2 (bytes k) (payload-open (bytes k) (dollar k) _ (exact short) (short .if3 .left) (c .if4 .taken))
 
 add-if5 : tie.Need-add-if5
 add-if5 c = search needs
@@ -75,26 +81,31 @@ add-t12 c = search needs
 
 returns-5 : tie.Need-returns-5
 returns-5 c =
-    let bytes = c .before .before .before .before .before .before .before .before .before .before .args .s .now in
-    bad-start 2 bytes _ (no-star bytes (c .before .before .before .before .before .before .if2 .left) _ (exact (c .before .before .before)) (omega arith) (omega arith) (c .if5 .taken)) (λ same. omega (arith, same, exact (c .before .before .before)))
+    let short = c .before .before .before in
+    let k = short .before in
+    bad-start 2 (bytes k) _
+    (no-star (bytes k) (dollar k) _ (exact short) (short .if3 .left) (omega arith) (c .if5 .taken))
+    (λ same. omega (arith, same, exact short))
 
 add-if6 : tie.Need-add-if6
 add-if6 c = search needs
 
 returns-6 : tie.Need-returns-6
 returns-6 c =
-    let bytes = c .before .before .before .before .before .before .before .before .before .before .before .args .s .now in
-    undecided 2 bytes (digits-missing bytes (c .before .before .before .before .before .before .before .if2 .left) _ (exact (c .before .before .before .before)) (omega arith) (c .before .if5 .left) (c .if6 .taken))
+    let short = c .before .before .before .before in
+    let k = short .before in
+    undecided 2 (bytes k) (digits-missing (bytes k) (dollar k) _ (exact short) (short .if3 .left) (c .before .if5 .left) (c .if6 .taken))
 
 add-t10 : tie.Need-add-t10
 add-t10 c = search needs
 
 returns-7 : tie.Need-returns-7
 returns-7 c =
-    let bytes = c .before .before .before .before .before .before .before .before .before .before .before .args .s .now in
-    let is-run = exact (c .before .before .before .before) in
-    by-whole 2 bytes _ (all-there bytes (c .before .before .before .before .before .before .before .if2 .left) _ is-run (omega arith) (c .before .if5 .left) (omega arith))
-    (ap (λ (n : ℕ). n + 6) is-run)
+    let short = c .before .before .before .before in
+    let k = short .before in
+    by-whole 2 (bytes k) _
+    (all-there (bytes k) (dollar k) _ (exact short) (short .if3 .left) (c .before .if5 .left) (omega arith))
+    (ap (λ (n : ℕ). n + 6) (exact short))
 
 pub examine-sentence-spec : {M : Type 1} → statement M
 examine-sentence-spec =
