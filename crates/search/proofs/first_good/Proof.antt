@@ -69,14 +69,14 @@ abbrev μ-loop : tie.MeasureT-loop
 μ-loop family s from stop₀ stop = length s - stop .at
 
 -- the frame's bytes are there
-there : (c : tie.Then2 Inv-loop μ-loop) → (0 < c .before .before .before .loop .stop .size) × (c .before .before .before .loop .stop .size ≤ length (c .before .before .before .before .before .before .args .s .now) - c .before .before .before .loop .stop .at)
-there c = whole-there (c .before .before .before .before .before .before .args .family) (c .before .before .before .before .before .before .args .s .now) (c .before .before .before .loop .stop .at) (c .before .before .before .loop .stop .size) (c .before .before .before .loop .inv .1 .whole (c .if2 .taken))
+there : (c : tie.Then2 Inv-loop μ-loop) → (0 < c .before .before .before .loop .stop .length) × (c .before .before .before .loop .stop .length ≤ length (c .before .before .before .before .before .before .args .s .now) - c .before .before .before .loop .stop .at)
+there c = whole-there (c .before .before .before .before .before .before .args .family) (c .before .before .before .before .before .before .args .s .now) (c .before .before .before .loop .stop .at) (c .before .before .before .loop .stop .length) (c .before .before .before .loop .inv .1 .whole (c .if2 .taken))
 
 -- what was read there
-was-read : (c : tie.After-read-frame Inv-loop μ-loop) → c .read-frame .result ≡ readOne (c .before .before .before .before .before .before .before .before .args .family) (take (c .before .before .before .before .before .loop .stop .size) (drop (c .before .before .before .before .before .loop .stop .at) (c .before .before .before .before .before .before .before .before .args .s .now)))
+was-read : (c : tie.After-read-frame Inv-loop μ-loop) → c .read-frame .result ≡ readOne (c .before .before .before .before .before .before .before .before .args .family) (take (c .before .before .before .before .before .loop .stop .length) (drop (c .before .before .before .before .before .loop .stop .at) (c .before .before .before .before .before .before .before .before .args .s .now)))
 was-read c =
     let a = c .before .before .before .before .before .before .before .before .args in
-    c .read-frame .ensures .answers ∙ ap (readOne (a .family)) (part-there (a .family) (a .s .now) (c .before .before .before .before .before .loop .stop .at) (c .before .before .before .before .before .loop .stop .size))
+    c .read-frame .ensures .answers ∙ ap (readOne (a .family)) (part-there (a .family) (a .s .now) (c .before .before .before .before .before .loop .stop .at) (c .before .before .before .before .before .loop .stop .length))
 
 -- the start at the stop is not good: refused, or undecided
 not-here : (c : tie.Joined2 Inv-loop μ-loop) → NotGood (head (c .before .before .before .before .before .before .args .family) (drop (c .before .before .before .loop .stop .at) (c .before .before .before .before .before .before .args .s .now)))
@@ -84,7 +84,7 @@ not-here c =
     let loop = c .before .before .before .loop in
     let a = c .before .before .before .before .before .before .args in
     ⊎-elim
-    (λ w. bad-not-good (loop .inv .1 .whole (w .0 .taken) .0 ∙ ap (headOf (loop .stop .size)) (ap (readOne (a .family)) (sym (part-there (a .family) (a .s .now) (loop .stop .at) (loop .stop .size))) ∙ sym (w .2 .ensures .answers) ∙ w .4 .given .1)))
+    (λ w. bad-not-good (loop .inv .1 .whole (w .0 .taken) .0 ∙ ap (headOf (loop .stop .length)) (ap (readOne (a .family)) (sym (part-there (a .family) (a .s .now) (loop .stop .at) (loop .stop .length))) ∙ sym (w .2 .ensures .answers) ∙ w .4 .given .1)))
     (λ w. wait-not-good (loop .inv .1 .waits (w .left) (omega arith)))
     (c .if2 .came)
 
@@ -117,7 +117,7 @@ returns c =
     let loop = c .before .before .before .before .before .before .before .before .loop in
     let a = c .before .before .before .before .before .before .before .before .before .before .before .args in
     ready (a .family) (a .s .now) (a .from) (loop .stop .at) (loop .inv .0) _ _
-    (loop .inv .1 .whole (c .before .before .before .before .before .if2 .taken) .0 ∙ ap (headOf (loop .stop .size)) (sym (was-read (c .before .before .before)) ∙ c .before .frame .given .1))
+    (loop .inv .1 .whole (c .before .before .before .before .before .if2 .taken) .0 ∙ ap (headOf (loop .stop .length)) (sym (was-read (c .before .before .before)) ∙ c .before .frame .given .1))
 
 enum-told : tie.Need-enum-told Inv-loop μ-loop
 enum-told c = search needs

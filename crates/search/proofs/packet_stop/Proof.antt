@@ -49,14 +49,14 @@ here : (c : tie.After-examine Inv-loop μ-loop) → c .examine .result ≡ seen 
 here c = c .examine .ensures ∙ ap (seen _) (whole-rest (c .before .before .before .before .before .before .before .before .before .args .s .now) (c .before .before .before .before .before .before .loop .at))
 
 -- a whole frame's bytes there
-to-read : (c : tie.After-known-told Inv-loop μ-loop) → WholeAt (c .before .before .before .before .before .before .before .before .before .before .before .before .args .family) (c .before .before .before .before .before .before .before .before .before .before .before .before .args .s .now) (c .before .before .before .before .before .before .before .before .before .loop .at) (c .before .size .given .0 .0)
-to-read c = seen-whole (c .before .before .before .before .before .before .before .before .before .before .before .before .args .family) (drop (c .before .before .before .before .before .before .before .before .before .loop .at) (c .before .before .before .before .before .before .before .before .before .before .before .before .args .s .now)) _ (sym (here (c .before .before .before)) ∙ c .before .size .given .1)
+to-read : (c : tie.After-known-told Inv-loop μ-loop) → WholeAt (c .before .before .before .before .before .before .before .before .before .before .before .before .args .family) (c .before .before .before .before .before .before .before .before .before .before .before .before .args .s .now) (c .before .before .before .before .before .before .before .before .before .loop .at) (c .before .length .given .0 .0)
+to-read c = seen-whole (c .before .before .before .before .before .before .before .before .before .before .before .before .args .family) (drop (c .before .before .before .before .before .before .before .before .before .loop .at) (c .before .before .before .before .before .before .before .before .before .before .before .before .args .s .now)) _ (sym (here (c .before .before .before)) ∙ c .before .length .given .1)
 
-enough : (c : tie.After-known-told Inv-loop μ-loop) → c .before .size .given .0 .0 ≤ length (c .before .before .before .before .before .before .before .before .before .before .before .before .args .s .now) - c .before .before .before .before .before .before .before .before .before .loop .at
+enough : (c : tie.After-known-told Inv-loop μ-loop) → c .before .length .given .0 .0 ≤ length (c .before .before .before .before .before .before .before .before .before .before .before .before .args .s .now) - c .before .before .before .before .before .before .before .before .before .loop .at
 enough c = whole-there (c .before .before .before .before .before .before .before .before .before .before .before .before .args .family) (c .before .before .before .before .before .before .before .before .before .before .before .before .args .s .now) (c .before .before .before .before .before .before .before .before .before .loop .at) _ (to-read c) .1
 
-six : (c : tie.After-known-told Inv-loop μ-loop) → 6 ≤ c .before .size .given .0 .0
-six c = whole-size (c .before .before .before .before .before .before .before .before .before .before .before .before .args .family) (drop (c .before .before .before .before .before .before .before .before .before .loop .at) (c .before .before .before .before .before .before .before .before .before .before .before .before .args .s .now)) _ (whole-there (c .before .before .before .before .before .before .before .before .before .before .before .before .args .family) (c .before .before .before .before .before .before .before .before .before .before .before .before .args .s .now) (c .before .before .before .before .before .before .before .before .before .loop .at) _ (to-read c) .0) (sym (here (c .before .before .before)) ∙ c .before .size .given .1)
+six : (c : tie.After-known-told Inv-loop μ-loop) → 6 ≤ c .before .length .given .0 .0
+six c = whole-size (c .before .before .before .before .before .before .before .before .before .before .before .before .args .family) (drop (c .before .before .before .before .before .before .before .before .before .loop .at) (c .before .before .before .before .before .before .before .before .before .before .before .before .args .s .now)) _ (whole-there (c .before .before .before .before .before .before .before .before .before .before .before .before .args .family) (c .before .before .before .before .before .before .before .before .before .before .before .before .args .s .now) (c .before .before .before .before .before .before .before .before .before .loop .at) _ (to-read c) .0) (sym (here (c .before .before .before)) ∙ c .before .length .given .1)
 
 -- or a bad start
 broken : (c : tie.After-enum-told2 Inv-loop μ-loop) → BadBy (c .before .before .before .before .before .before .before .before .before .before .before .args .family) (drop (c .before .before .before .before .before .before .before .before .loop .at) (c .before .before .before .before .before .before .before .before .before .before .before .args .s .now)) 4
@@ -135,8 +135,8 @@ part-examine-end c = omega arith
 examine-requires : tie.Need-examine-requires Inv-loop μ-loop
 examine-requires c κs = search needs
 
-enum-known-size : tie.Need-enum-known-size Inv-loop μ-loop
-enum-known-size c = search needs
+enum-known-length : tie.Need-enum-known-length Inv-loop μ-loop
+enum-known-length c = search needs
 
 add-ruled-out : tie.Need-add-ruled-out Inv-loop μ-loop
 add-ruled-out c = omega (arith, enough c)
@@ -175,7 +175,7 @@ loop-again-2 : tie.Need-loop-again-2 Inv-loop μ-loop
 loop-again-2 c =
     let a = c .before .before .before .before .before .before .before .before .before .before .before .before .before .before .before .before .args in
     let loop = c .before .before .before .before .before .before .before .before .before .before .before .before .before .loop in
-    let n = c .before .before .before .before .before .size .given .0 .0 in
+    let n = c .before .before .before .before .before .length .given .0 .0 in
     let out = c .before .before .ruled-out .ensures (not-false (c .before .before .ruled-out .result) (c .before .if2 .left)) in
     let read = readOne (a .family) (take n (drop (loop .at) (a .s .now))) in
     let long : 4 ≤ length (a .s .now) - loop .at = omega (arith, six (c .before .before .before .before), enough (c .before .before .before .before)) in
@@ -242,7 +242,7 @@ packet-stop-spec =
     part-examine-start
     part-examine-end
     examine-requires
-    enum-known-size
+    enum-known-length
     add-ruled-out
     sub-ruled-out
     part-ruled-out-start

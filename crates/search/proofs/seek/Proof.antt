@@ -21,14 +21,14 @@ abbrev μ-loop : tie.MeasureT-loop
 μ-loop family s stop₀ stop = length s - stop .at
 
 -- the frame's bytes are there
-there : (c : tie.Then1 Inv-loop μ-loop) → (0 < c .before .before .loop .stop .size) × (c .before .before .loop .stop .size ≤ length (c .before .before .before .before .before .args .s .now) - c .before .before .loop .stop .at)
-there c = whole-there (c .before .before .before .before .before .args .family) (c .before .before .before .before .before .args .s .now) (c .before .before .loop .stop .at) (c .before .before .loop .stop .size) (c .before .before .loop .inv .found .whole (c .if1 .taken))
+there : (c : tie.Then1 Inv-loop μ-loop) → (0 < c .before .before .loop .stop .length) × (c .before .before .loop .stop .length ≤ length (c .before .before .before .before .before .args .s .now) - c .before .before .loop .stop .at)
+there c = whole-there (c .before .before .before .before .before .args .family) (c .before .before .before .before .before .args .s .now) (c .before .before .loop .stop .at) (c .before .before .loop .stop .length) (c .before .before .loop .inv .found .whole (c .if1 .taken))
 
 -- what was read there
-was-read : (c : tie.After-read-frame Inv-loop μ-loop) → c .read-frame .result ≡ readOne (c .before .before .before .before .before .before .before .args .family) (take (c .before .before .before .before .loop .stop .size) (drop (c .before .before .before .before .loop .stop .at) (c .before .before .before .before .before .before .before .args .s .now)))
+was-read : (c : tie.After-read-frame Inv-loop μ-loop) → c .read-frame .result ≡ readOne (c .before .before .before .before .before .before .before .args .family) (take (c .before .before .before .before .loop .stop .length) (drop (c .before .before .before .before .loop .stop .at) (c .before .before .before .before .before .before .before .args .s .now)))
 was-read c =
     let a = c .before .before .before .before .before .before .before .args in
-    c .read-frame .ensures .answers ∙ ap (readOne (a .family)) (part-there (a .family) (a .s .now) (c .before .before .before .before .loop .stop .at) (c .before .before .before .before .loop .stop .size))
+    c .read-frame .ensures .answers ∙ ap (readOne (a .family)) (part-there (a .family) (a .s .now) (c .before .before .before .before .loop .stop .at) (c .before .before .before .before .loop .stop .length))
 
 next-stop-requires : tie.Need-next-stop-requires Inv-loop μ-loop
 next-stop-requires c κs = search needs
@@ -65,7 +65,7 @@ returns c =
     let loop = c .before .before .before .before .before .before .before .before .loop in
     let a = c .before .before .before .before .before .before .before .before .before .before .before .args in
     ready (a .family) (a .s .now) (loop .stop) (loop .inv) _ _
-    (loop .inv .found .whole (c .before .before .before .before .before .before .if1 .taken) .0 ∙ ap (headOf (loop .stop .size)) (sym (was-read (c .before .before .before .before)) ∙ c .before .before .frame .given .1))
+    (loop .inv .found .whole (c .before .before .before .before .before .before .if1 .taken) .0 ∙ ap (headOf (loop .stop .length)) (sym (was-read (c .before .before .before .before)) ∙ c .before .before .frame .given .1))
     (c .further .ensures)
 
 enum-told : tie.Need-enum-told Inv-loop μ-loop
@@ -91,7 +91,7 @@ loop-again c =
     let loop = c .before .before .before .before .before .before .before .before .loop in
     let a = c .before .before .before .before .before .before .before .before .before .before .before .args in
     onward (a .family) (a .s .now) (loop .stop) (loop .inv) (c .before .before .before .before .before .before .if1 .taken)
-    (ap (headOf (loop .stop .size)) (sym (was-read (c .before .before .before .before)) ∙ c .before .before .enum-told .given .1))
+    (ap (headOf (loop .stop .length)) (sym (was-read (c .before .before .before .before)) ∙ c .before .before .enum-told .given .1))
     _ (c .before .further2 .ensures) _ (c .next-stop2 .ensures)
 
 returns-2 : tie.Need-returns-2 Inv-loop μ-loop

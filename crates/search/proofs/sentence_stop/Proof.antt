@@ -80,14 +80,14 @@ part-examine-end c = omega arith
 examine-requires : tie.Need-examine-requires Inv-loop μ-loop
 examine-requires c κs = search needs
 
-enum-known-size : tie.Need-enum-known-size Inv-loop μ-loop
-enum-known-size c = search needs
+enum-known-length : tie.Need-enum-known-length Inv-loop μ-loop
+enum-known-length c = search needs
 
 returns : tie.Need-returns Inv-loop μ-loop
 returns c =
     let a = c .before .before .before .before .before .before .before .before .before .before .args in
     let loop = c .before .before .before .before .before .before .before .before .loop in
-    stops-to-read 2 (a .s .now) (a .from) (a .far) (loop .at) _ _ (loop .inv) (seen-whole 2 (drop (loop .at) (a .s .now)) _ (sym (here (c .before .before .before)) ∙ c .before .size .given .1))
+    stops-to-read 2 (a .s .now) (a .from) (a .far) (loop .at) _ _ (loop .inv) (seen-whole 2 (drop (loop .at) (a .s .now)) _ (sym (here (c .before .before .before)) ∙ c .before .length .given .1))
 
 enum-told : tie.Need-enum-told Inv-loop μ-loop
 enum-told c = search needs
@@ -140,7 +140,7 @@ sentence-stop-spec =
     part-examine-start
     part-examine-end
     examine-requires
-    enum-known-size
+    enum-known-length
     returns
     enum-told
     returns-2
