@@ -89,8 +89,8 @@ pub extern "C" fn amp_fresh(reader: &mut Reader, family: u32) -> u32
     after.number
 }
 
-// Offers bytes to the lent reader, and lays the row of what it answers. The reader's held places are lent on,
-// so that no copy of it is made; where the call is refused, what is stored is what stood there.
+// Offers bytes to the lent reader, and lays the row of what it answers. The reader's held places are lent on
+// and altered where they stand; where the call is refused, what is stored is what stood there.
 #[no_mangle]
 pub extern "C" fn amp_feed(reader: &mut Reader, offered: &[u8], numbers: &mut [i64]) -> u32
     ensures { λ r. ⌜ FeedsRow (now (reader .entry)) (now (offered .entry)) (now (numbers .entry)) r (now (reader .exit)) (now (numbers .exit)) ⌝ }

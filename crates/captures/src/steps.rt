@@ -20,8 +20,7 @@ ghost use Rattle.rules.specs.Answers.{replies, sentences, commands};
 ghost use Rattle.stream_rules.specs.Heads.{payloadRun};
 ghost use Rattle.captures.specs.Sizes.{sizeAt, Passes};
 
-// How long the good command at the head is; 0 where there is none. Its bytes are looked at together:
-// most starts that are tried are good.
+// How long the good command at the head is; 0 where there is none.
 pub(crate) fn command_size(s: &[u8]) -> usize
     ensures { λ r. ⌜ r ≡ sizeAt commands (now (s .entry)) ⌝ }
 {

@@ -11,7 +11,7 @@ ghost use lib.ListN.{length, take};
 ghost use Rattle.rules.specs.Bytes.{part};
 ghost use Rattle.stream_rules.specs.Streams.{placeCount, filled};
 ghost use Rattle.pens.specs.Pens.{laid};
-ghost use Rattle.held_bytes.specs.Held.{Leaves};
+ghost use Rattle.held_bytes.specs.Held.{Become};
 
 // How many places there are: a function of its own, because a proof knows no length of an array behind a
 // reference, and has it of the slice that this is lent.
@@ -23,7 +23,7 @@ pub fn size(places: &[u8]) -> usize
 
 // Zeros from one of the places on.
 fn clear_from(places: &mut [u8; PLACES], from: usize)
-    ensures { λ _. ⌜ Leaves (now (places .entry)) (filled (take from (now (places .entry)))) (now (places .exit)) ⌝ }
+    ensures { λ _. ⌜ Become places (λ l. filled (take from l)) ⌝ }
 {
     let mut i = from;
     while i < PLACES {
@@ -46,10 +46,10 @@ fn block_of(few: &[u8]) -> [u8; 16]
     block
 }
 
-// Sixteen bytes laid at a place. All are read before one is written, so that the compiler moves them at once.
+// Sixteen bytes laid at a place.
 fn put_block(places: &mut [u8; PLACES], at: usize, few: &[u8])
     requires { ⌜ (length (now few) ≡ 16) × (at + 16 ≤ placeCount) ⌝ }
-    ensures { λ _. ⌜ Leaves (now (places .entry)) (laid at (now (few .entry)) (now (places .entry))) (now (places .exit)) ⌝ }
+    ensures { λ _. ⌜ Become places (laid at (now (few .entry))) ⌝ }
 {
     let block = block_of(few);
     let mut i = 0;
@@ -61,7 +61,7 @@ fn put_block(places: &mut [u8; PLACES], at: usize, few: &[u8])
 
 // Bytes laid at a place, where there is room for them, sixteen of them as a block. The other places stay as they are.
 pub fn lay(places: &mut [u8; PLACES], at: usize, few: &[u8])
-    ensures { λ _. ⌜ Leaves (now (places .entry)) (laid at (now (few .entry)) (now (places .entry))) (now (places .exit)) ⌝ }
+    ensures { λ _. ⌜ Become places (laid at (now (few .entry))) ⌝ }
 {
     if few.len() != 16 {
         put_bytes(places, at, few);
@@ -72,10 +72,9 @@ pub fn lay(places: &mut [u8; PLACES], at: usize, few: &[u8])
     }
 }
 
-// Keeps so many places from one of them on, with zeros behind them. From the front there is nothing to move, and where they
-// are none, nothing to copy.
+// Keeps so many places from one of them on, with zeros behind them.
 pub fn keep_part(places: &mut [u8; PLACES], a: usize, n: usize)
-    ensures { λ _. ⌜ Leaves (now (places .entry)) (filled (part a n (now (places .entry)))) (now (places .exit)) ⌝ }
+    ensures { λ _. ⌜ Become places (λ l. filled (part a n l)) ⌝ }
 {
     if a == 0 {
         clear_from(places, n);
@@ -90,8 +89,8 @@ pub fn keep_part(places: &mut [u8; PLACES], a: usize, n: usize)
     *places = kept;
 }
 
-// Whether zeros stand in all places. They are seen as nine blocks of sixteen side by side, the last of which
-// overlaps the one before it, so that the compiler tests sixteen bytes at once.
+// Whether zeros stand in all places. They are seen as nine blocks of sixteen, of which the last overlaps the one
+// before it: 133 is no multiple of sixteen.
 fn is_clear(places: &[u8; PLACES]) -> bool
     ensures { λ r. ⌜ (r ≡ true → length (now (places .entry)) ≡ placeCount → now (places .entry) ≡ filled []) ⌝ }
 {
@@ -116,7 +115,7 @@ fn is_clear(places: &[u8; PLACES]) -> bool
 
 // Zeros in all places. Where they are there already nothing is written.
 pub fn clear(places: &mut [u8; PLACES])
-    ensures { λ _. ⌜ Leaves (now (places .entry)) (filled []) (now (places .exit)) ⌝ }
+    ensures { λ _. ⌜ Become places (λ l. filled []) ⌝ }
 {
     if !is_clear(places) {
         *places = [0u8; PLACES];

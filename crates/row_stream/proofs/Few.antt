@@ -20,11 +20,11 @@ use Rattle.stream_laws.proofs.Heads.{good-head}
 use Rattle.stream_laws.proofs.Looks.{look-ready}
 use Rattle.stream_laws.proofs.States.{open-call}
 use Rattle.search.specs.Sought.{soughtIn}
-use Rattle.row_stream.specs.RowSought.{placeOf, rowOf, LaysSought}
+use Rattle.row_stream.specs.RowSought.{stopOf, rowOf, LaysSought}
 use Rattle.search.specs.declared.Hit.{Hit}
 use Rattle.search.specs.declared.Sought.{Sought}
 use Rattle.search.specs.declared.Sought.the-variants.{Ready, Waiting}
-use Rattle.row_stream.specs.declared.short_ways.row_search.Place.{Place}
+use Rattle.search.specs.declared.Stop.{Stop}
 use Rattle.rows.specs.Rows.{rowWithout, front}
 use Rattle.stream.specs.Places.{readerAt, fedAt}
 use Rattle.stream.specs.declared.moves.Moved.{Moved}
@@ -35,12 +35,12 @@ use Rattle.stream.proofs.Onward.{call-same}
 use Rattle.row_stream.specs.FedRows.{FeedsRow}
 use Rattle.row_stream.proofs.Laid.{with-frame, wanting}
 
--- how far a place reaches, and how many bytes are left behind it
-abbrev pub behind : Place → ℕ
-behind p = p .start + p .length
+-- how far a frame at a stop goes, and how many bytes are left behind it
+abbrev pub behind : Stop → ℕ
+behind p = p .at + p .length
 
-abbrev pub left-of : Place → ℕ
-left-of p = p .to - behind p
+abbrev pub left-of : Stop → ℕ
+left-of p = p .reach - behind p
 
 module _ (family count at skipped : ℕ) (places few bytes : List ℕ) (numbers : List ℤ)
     (a-family : isFamily family ≡ true) (low : count < longest family) (held : count ≤ length places) (are : bytes ≡ take count places ++ few)
@@ -54,16 +54,16 @@ module _ (family count at skipped : ℕ) (places few bytes : List ℕ) (numbers 
   there : count ≤ length bytes
   there = omega (arith, ap length are, length-append (take count places) few, size)
 
-  -- what a place says of the call: the bytes that it keeps are there, and with the row it is the call on the few
-  abbrev pub Kept : Place → List ℕ → Type 0
+  -- what a stop says of the call: the bytes that it keeps are there, and with the row it is the call on the few
+  abbrev pub Kept : Stop → List ℕ → Type 0
   Kept p kept = kept ≡ filled (part (behind p) (left-of p) bytes)
 
-  abbrev Leaves : Place → List ℕ → ℕ → List ℤ → Type 0
+  abbrev Leaves : Stop → List ℕ → ℕ → List ℤ → Type 0
   Leaves p kept passed after = FeedsRow reader few numbers 0 (readerAt family 0 (left-of p) kept (wrap (at + behind p)) passed) after
 
-  pub record FewAt (after : List ℤ) (p : Place) : Type 0 where
-    pub order : behind p ≤ p .to
-    pub within : p .to ≤ length bytes
+  pub record FewAt (after : List ℤ) (p : Stop) : Type 0 where
+    pub order : behind p ≤ p .reach
+    pub within : p .reach ≤ length bytes
     pub short : left-of p < longest family
     pub waits : p .length ≡ 0 → (kept : List ℕ) → Kept p kept → Leaves p kept (wrap (skipped + behind p)) after
     pub hands : (p .length ≡ 0 → ⊥) → (kept : List ℕ) → Kept p kept → Leaves p kept 0 after
@@ -79,7 +79,7 @@ module _ (family count at skipped : ℕ) (places few bytes : List ℕ) (numbers 
       ∙ sym (opens 0)
 
   waiting-at : (after : List ℤ) (from : ℕ) → soughtIn family bytes ≡ Waiting from → after ≡ front (rowOf (length bytes) count at skipped (Waiting from)) numbers
-      → FewAt after (placeOf (length bytes) count (Waiting from))
+      → FewAt after (stopOf (length bytes) count (Waiting from))
   waiting-at after from e stands =
       let cuts = cut-waiting family bytes count there low from e in
       record {
@@ -108,7 +108,7 @@ module _ (family count at skipped : ℕ) (places few bytes : List ℕ) (numbers 
       rw (start, passed, many) at fed-so
 
   ready-at : (after : List ℤ) (hit : Hit) → soughtIn family bytes ≡ Ready hit → after ≡ front (rowOf (length bytes) count at skipped (Ready hit)) numbers
-      → FewAt after (placeOf (length bytes) count (Ready hit))
+      → FewAt after (stopOf (length bytes) count (Ready hit))
   ready-at after hit e stands =
       let to = max (hit .reach) count in
       let from = hit .start + hit .length in
@@ -126,10 +126,10 @@ module _ (family count at skipped : ℕ) (places few bytes : List ℕ) (numbers 
             with-frame reader few numbers after room _ _ (few-fed kept _ opens) stands;
       }
 
-  pub few-at : (p : Place) (after : List ℤ) → LaysSought (length bytes) count at skipped (soughtIn family bytes) numbers p after → FewAt after p
+  pub few-at : (p : Stop) (after : List ℤ) → LaysSought (length bytes) count at skipped (soughtIn family bytes) numbers p after → FewAt after p
   few-at p after s = subst (FewAt after) (sym (s .found)) (by-sought (soughtIn family bytes) refl (s .laid))
     where
       by-sought : (x : Sought) → soughtIn family bytes ≡ x → after ≡ front (rowOf (length bytes) count at skipped (soughtIn family bytes)) numbers
-          → FewAt after (placeOf (length bytes) count (soughtIn family bytes))
+          → FewAt after (stopOf (length bytes) count (soughtIn family bytes))
       by-sought (Waiting from) e stands = rw e (waiting-at after from e (rw e at stands))
       by-sought (Ready hit) e stands = rw e (ready-at after hit e (rw e at stands))

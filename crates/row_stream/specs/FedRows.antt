@@ -6,10 +6,12 @@ use mathlib.Core.List.{List}
 use lib.Dec.{eqb}
 use lib.IntN.{ℤ}
 use lib.ListN.{length}
+use denote.Ref.{now}
 use Rattle.stream_rules.specs.Streams.{placeCount, fed, saidToFeed}
 use Rattle.stream_rules.specs.declared.Reader.{Reader}
 use Rattle.stream.specs.Places.{readerAt}
-use Rattle.rows.specs.Rows.{rowFed, Lays}
+use Rattle.held_bytes.specs.Held.{LentBytes}
+use Rattle.rows.specs.Rows.{rowFed, Lays, LentNumbers}
 use Rattle.row_stream.specs.declared.Counts.{Counts}
 
 -- Where its number is not 0, for a refusal of the stream or because the row has no room, the reader is as it was: nothing is
@@ -24,3 +26,8 @@ abbrev pub FeedsRowAt : ℕ → ℕ → ℕ → List ℕ → ℕ → ℕ → Lis
 FeedsRowAt family closed count held at skipped offered numbers c places left =
     length held ≡ placeCount
     → FeedsRow (readerAt family closed count held at skipped) offered numbers (c .number) (readerAt family closed (c .count) places (c .at) (c .skipped)) left
+
+-- The same in the words of a function that is lent the places and the numbers.
+abbrev pub FeedsLent : ℕ → ℕ → ℕ → ℕ → ℕ → LentBytes → LentBytes → LentNumbers → Counts → Type 0
+FeedsLent family closed count at skipped held offered numbers c =
+    FeedsRowAt family closed count (now (held .entry)) at skipped (now (offered .entry)) (now (numbers .entry)) c (now (held .exit)) (now (numbers .exit))

@@ -5,9 +5,12 @@ use mathlib.Core.Path.{_≡_}
 use mathlib.Core.Bool.{true}
 use mathlib.Core.List.{List, _++_}
 use lib.ListN.{length, take, getD}
+use denote.Ref.{now}
 use Rattle.rules.specs.Bytes.{part, every}
 use Rattle.rules.specs.Sentences.{longestPayload, isPayloadByte}
 use Rattle.rules.specs.Status.{reportLength}
+use Rattle.stream_rules.specs.Streams.{placeCount}
+use Rattle.held_bytes.specs.Held.{LentBytes}
 use Rattle.spe.specs.Ends.{beginsReport}
 use Rattle.search.specs.Sought.{soughtIn}
 use Rattle.search.specs.declared.Sought.the-variants.{Waiting}
@@ -30,3 +33,7 @@ pub record SentenceGoesOn (count : ℕ) (held others : List ℕ) : Type 0 where
 pub record GoesOn (family count : ℕ) (held others : List ℕ) : Type 0 where
   pub few : IsFew family count (length others)
   pub undecided : soughtIn family (take count held ++ others) ≡ Waiting 0
+
+-- The same of lent places, of which there are as many as their type says.
+abbrev pub GoesOnLent : ℕ → ℕ → LentBytes → LentBytes → Type 0
+GoesOnLent family count held others = length (now (held .entry)) ≡ placeCount → GoesOn family count (now (held .entry)) (now (others .entry))

@@ -5,11 +5,13 @@ use mathlib.Core.Bool.{true}
 use mathlib.Core.List.{List}
 use lib.IntN.{ℤ}
 use lib.ListN.{length}
+use denote.Ref.{now}
 use Rattle.rules.specs.Answers.{isFamily}
 use Rattle.stream_rules.specs.Heads.{longest}
 use Rattle.stream_rules.specs.Streams.{placeCount, wrap}
 use Rattle.stream.specs.Places.{readerAt}
-use Rattle.rows.specs.Rows.{longestRow}
+use Rattle.held_bytes.specs.Held.{LentBytes}
+use Rattle.rows.specs.Rows.{longestRow, LentNumbers}
 use Rattle.row_stream.specs.FedRows.{FeedsRow, FeedsRowAt}
 use Rattle.row_stream.specs.declared.short_ways.Short as ShortType
 use Rattle.row_stream.specs.declared.short_ways.Short.the-variants.{Taken, NotTaken}
@@ -37,9 +39,17 @@ pub record FrontRow (family at skipped : ℕ) (offered held : List ℕ) (numbers
   pub none : n ≡ 0 → (places ≡ held) × (left ≡ numbers)
   pub handed : (n ≡ 0 → ⊥) → FeedsRow (readerAt family 0 0 held at skipped) offered numbers 0 (readerAt family 0 0 places (wrap (at + n)) 0) left
 
+abbrev pub FrontLent : ℕ → ℕ → ℕ → LentBytes → LentBytes → LentNumbers → ℕ → Type 0
+FrontLent family at skipped held offered numbers n =
+    FrontRow family at skipped (now (offered .entry)) (now (held .entry)) (now (numbers .entry)) n (now (held .exit)) (now (numbers .exit))
+
 -- Where a short way was taken, it is the call on the reader of these parts; where none was, the held places and the numbers are as they
 -- were.
 abbrev pub TriesShort : ℕ → ℕ → ℕ → List ℕ → ℕ → ℕ → List ℕ → List ℤ → ShortType.Short → List ℕ → List ℤ → Type 0
 TriesShort family closed count held at skipped offered numbers (Taken c) places left =
     FeedsRowAt family closed count held at skipped offered numbers c places left
 TriesShort family closed count held at skipped offered numbers NotTaken places left = (places ≡ held) × (left ≡ numbers)
+
+abbrev pub TriesLent : ℕ → ℕ → ℕ → ℕ → ℕ → LentBytes → LentBytes → LentNumbers → ShortType.Short → Type 0
+TriesLent family closed count at skipped held offered numbers s =
+    TriesShort family closed count (now (held .entry)) at skipped (now (offered .entry)) (now (numbers .entry)) s (now (held .exit)) (now (numbers .exit))

@@ -10,7 +10,7 @@ use rows::lay_answer;
 use stream::feed_places;
 use stream_rules::PLACES;
 ghost use mathlib.Core.Path.{_≡_};
-ghost use Rattle.row_stream.specs.FedRows.{FeedsRowAt};
+ghost use Rattle.row_stream.specs.FedRows.{FeedsLent};
 
 // The number that a call gives, and what it leaves of a reader beside its held places.
 pub struct Counts {
@@ -32,7 +32,7 @@ fn feed_any(
     offered: &[u8],
     numbers: &mut [i64],
 ) -> Counts
-    ensures { λ c. ⌜ FeedsRowAt family closed count (now (held .entry)) at skipped (now (offered .entry)) (now (numbers .entry)) c (now (held .exit)) (now (numbers .exit)) ⌝ }
+    ensures { λ c. ⌜ FeedsLent family closed count at skipped held offered numbers c ⌝ }
 {
     let short = numbers.len() < LONGEST_ROW;
     let mut places = [0u8; PLACES];
@@ -85,7 +85,7 @@ pub fn feed_row(
     offered: &[u8],
     numbers: &mut [i64],
 ) -> Counts
-    ensures { λ c. ⌜ FeedsRowAt family closed count (now (held .entry)) at skipped (now (offered .entry)) (now (numbers .entry)) c (now (held .exit)) (now (numbers .exit)) ⌝ }
+    ensures { λ c. ⌜ FeedsLent family closed count at skipped held offered numbers c ⌝ }
 {
     let short = try_short(family, closed, count, at, skipped, held, offered, numbers);
     if let Short::Taken(counts) = short {

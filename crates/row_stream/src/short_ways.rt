@@ -24,7 +24,7 @@ use stream::advanced;
 use stream_rules::PLACES;
 ghost use mathlib.Core.Path.{_≡_};
 ghost use mathlib.Core.Bool.{true};
-ghost use Rattle.row_stream.specs.Short.{IsPlain, TriesShort};
+ghost use Rattle.row_stream.specs.Short.{IsPlain, TriesLent};
 
 // A short way was taken, with what the call leaves; or none was, and nothing is changed.
 pub(crate) enum Short {
@@ -50,7 +50,7 @@ pub(crate) fn try_short(
     offered: &[u8],
     numbers: &mut [i64],
 ) -> Short
-    ensures { λ s. ⌜ TriesShort family closed count (now (held .entry)) at skipped (now (offered .entry)) (now (numbers .entry)) s (now (held .exit)) (now (numbers .exit)) ⌝ }
+    ensures { λ s. ⌜ TriesLent family closed count at skipped held offered numbers s ⌝ }
 {
     if !is_plain(closed, size(held), numbers.len()) {
         return Short::NotTaken;

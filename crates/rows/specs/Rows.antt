@@ -6,6 +6,8 @@ use mathlib.Core.Bool.{cond}
 use mathlib.Core.List.{List, [], _∷_, _++_}
 use lib.Dec.{eqb, leb}
 use lib.IntN.{ℤ, pos}
+use denote.Ref.{RefT, now}
+use denote.Triple.Both.{Both}
 use lib.ListN.{length, take, drop}
 use Rattle.rules.specs.Answers.{Says, no, yes, noRoom, values}
 use Rattle.rules.specs.declared.Frame.{Frame}
@@ -125,3 +127,13 @@ pub record LaysRow (r numbers : List ℤ) (result : ℕ) (after : List ℤ) : Ty
 pub record Lays (answer : Says) (r numbers : List ℤ) (result : ℕ) (after : List ℤ) : Type 0 where
   pub answers : result ≡ laidNumber answer r numbers
   pub content : after ≡ laidContent r numbers result
+
+-- Numbers that are lent to a function: as they are passed, and as they are left. And the same of a row and of an answer in lent numbers.
+abbrev pub LentNumbers : Type 0
+LentNumbers = Both (RefT (List ℤ)) (RefT (List ℤ))
+
+abbrev pub RowIn : LentNumbers → ℕ → List ℤ → Type 0
+RowIn numbers result r = LaysRow r (now (numbers .entry)) result (now (numbers .exit))
+
+abbrev pub AnswerIn : LentNumbers → ℕ → Says → List ℤ → Type 0
+AnswerIn numbers result answer r = Lays answer r (now (numbers .entry)) result (now (numbers .exit))

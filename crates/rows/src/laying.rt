@@ -17,7 +17,7 @@ ghost use Prim.Native.Nat.{_+_, _≤_};
 ghost use Rattle.rules.specs.Answers.{said, values};
 ghost use Rattle.rules.specs.Sentences.{numbers03};
 ghost use Rattle.stream_rules.specs.Streams.{saidToFeed};
-ghost use Rattle.rows.specs.Rows.{frameKind, frameCode, counted, head, row, rowFed, rowAt, laidAt, LaysRow, Lays};
+ghost use Rattle.rows.specs.Rows.{frameKind, frameCode, counted, head, row, rowFed, rowAt, laidAt, RowIn, AnswerIn};
 
 // The first number of a row: what kind of frame, or that more is wanted, or that all is done.
 pub const ACK_ROW: u32 = 1;
@@ -149,8 +149,7 @@ fn row_length(frame: Frame) -> usize
     }
 }
 
-// The row of a frame. Refusal 4 where it has no room. (The frame comes alone: in a struct it would be
-// copied once more.)
+// The row of a frame. Refusal 4 where it has no room.
 fn lay_frame(
     frame: Frame,
     taken: usize,
@@ -159,7 +158,7 @@ fn lay_frame(
     size: usize,
     numbers: &mut [i64],
 ) -> u32
-    ensures { λ r. ⌜ LaysRow (row taken start skipped size frame) (now (numbers .entry)) r (now (numbers .exit)) ⌝ }
+    ensures { λ r. ⌜ RowIn numbers r (row taken start skipped size frame) ⌝ }
 {
     if numbers.len() < row_length(frame) {
         return HAS_NO_ROOM;
@@ -187,7 +186,7 @@ pub fn lay_head(
     size: usize,
     numbers: &mut [i64],
 ) -> u32
-    ensures { λ r. ⌜ LaysRow (head kind code taken start skipped size) (now (numbers .entry)) r (now (numbers .exit)) ⌝ }
+    ensures { λ r. ⌜ RowIn numbers r (head kind code taken start skipped size) ⌝ }
 {
     if numbers.len() < ROW_HEAD {
         return HAS_NO_ROOM;
@@ -207,7 +206,7 @@ pub fn lay_values(
     values: &[u32],
     numbers: &mut [i64],
 ) -> u32
-    ensures { λ r. ⌜ LaysRow (head kind code taken start skipped size ++ map pos (now (values .entry))) (now (numbers .entry)) r (now (numbers .exit)) ⌝ }
+    ensures { λ r. ⌜ RowIn numbers r (head kind code taken start skipped size ++ map pos (now (values .entry))) ⌝ }
 {
     if numbers.len() < ROW_HEAD {
         return HAS_NO_ROOM;
@@ -222,7 +221,7 @@ pub fn lay_values(
 
 // What a call on a stream answered.
 pub fn lay_answer(answer: Answer, numbers: &mut [i64]) -> u32
-    ensures { λ r. ⌜ Lays (saidToFeed answer) (rowFed answer) (now (numbers .entry)) r (now (numbers .exit)) ⌝ }
+    ensures { λ r. ⌜ AnswerIn numbers r (saidToFeed answer) (rowFed answer) ⌝ }
 {
     match answer {
         Answer::Ready(ready) => {
@@ -251,7 +250,7 @@ pub fn lay_reading(
     size: usize,
     numbers: &mut [i64],
 ) -> u32
-    ensures { λ r. ⌜ Lays (said reading) (rowAt taken start skipped size reading) (now (numbers .entry)) r (now (numbers .exit)) ⌝ }
+    ensures { λ r. ⌜ AnswerIn numbers r (said reading) (rowAt taken start skipped size reading) ⌝ }
 {
     match reading {
         Reading::Good(frame) => lay_frame(frame, taken, start, skipped, size, numbers),

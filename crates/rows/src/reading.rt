@@ -1,5 +1,5 @@
 // Reads one frame and lays its row. What a reply or a command says goes from its bytes to the row: no record is made
-// of it, which would have to be copied, and a copy waits for the bytes just written.
+// of it.
 use crate::laying::ACK_ROW;
 use crate::laying::COMMAND_ROW;
 use crate::laying::STATUS_ROW;
@@ -15,7 +15,7 @@ use rules::SENTENCES;
 use spe::is_ack;
 use spe::is_command;
 use spe::read_numbers;
-ghost use Rattle.rows.specs.ReadRows.{ReadsRowAt};
+ghost use Rattle.rows.specs.ReadRows.{ReadIn};
 
 // The refusals, as a C program has them.
 const IS_NO_FAMILY: u32 = NO_FAMILY as u32;
@@ -24,7 +24,7 @@ const IS_NOT_GOOD: u32 = NOT_GOOD as u32;
 
 // An acknowledgement or a report, or refusal 8.
 fn reply_row(bytes: &[u8], taken: usize, start: u32, skipped: u32, numbers: &mut [i64]) -> u32
-    ensures { λ r. ⌜ ReadsRowAt 1 (now (bytes .entry)) taken start skipped (now (numbers .entry)) r (now (numbers .exit)) ⌝ }
+    ensures { λ r. ⌜ ReadIn numbers r 1 (now (bytes .entry)) taken start skipped ⌝ }
 {
     let size = bytes.len();
     if is_ack(bytes) {
@@ -48,7 +48,7 @@ fn reply_row(bytes: &[u8], taken: usize, start: u32, skipped: u32, numbers: &mut
 
 // A command, or refusal 8.
 fn command_row(bytes: &[u8], taken: usize, start: u32, skipped: u32, numbers: &mut [i64]) -> u32
-    ensures { λ r. ⌜ ReadsRowAt 3 (now (bytes .entry)) taken start skipped (now (numbers .entry)) r (now (numbers .exit)) ⌝ }
+    ensures { λ r. ⌜ ReadIn numbers r 3 (now (bytes .entry)) taken start skipped ⌝ }
 {
     let size = bytes.len();
     if is_command(bytes) {
@@ -75,7 +75,7 @@ pub fn read_row(
     skipped: u32,
     numbers: &mut [i64],
 ) -> u32
-    ensures { λ r. ⌜ ReadsRowAt family (now (bytes .entry)) taken start skipped (now (numbers .entry)) r (now (numbers .exit)) ⌝ }
+    ensures { λ r. ⌜ ReadIn numbers r family (now (bytes .entry)) taken start skipped ⌝ }
 {
     let size = bytes.len();
     match family {

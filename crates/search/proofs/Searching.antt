@@ -37,21 +37,21 @@ module _ (family : ℕ) (s : List ℕ) (p : Stop) (stops : Stops family s 0 0 p)
   within = stops .walks .within (omega arith)
 
   -- how far the bytes reach that settled them and a frame there
-  counted : (f : Frame) → GoodHead family (drop (p .at) s) (p .size) f → max (p .reach) (p .at + p .size) ≡ reach family (suc (p .at)) s
+  counted : (f : Frame) → GoodHead family (drop (p .at) s) (p .length) f → max (p .reach) (p .at + p .length) ≡ reach family (suc (p .at)) s
   unfolding reach
   counted f g =
       let same : SameFor (p .at) (p .reach) (reach family (p .at) s) = stops .walks .reaches refl in
       omega (arith, same, g .long, shortest-of-all family, g .settles)
 
-  pub ready : (f : Frame) (r : ℕ) → head family (drop (p .at) s) ≡ good (p .size) f → r ≡ max (p .reach) (p .at + p .size)
-      → Ready (record { start = p .at; length = p .size; reach = r; frame = f }) ≡ soughtIn family s
+  pub ready : (f : Frame) (r : ℕ) → head family (drop (p .at) s) ≡ good (p .length) f → r ≡ max (p .reach) (p .at + p .length)
+      → Ready (record { start = p .at; length = p .length; reach = r; frame = f }) ≡ soughtIn family s
   unfolding soughtIn
   ready f r here is =
-      ap (λ (n : ℕ). Ready (record { start = p .at; length = p .size; reach = n; frame = f })) (is ∙ counted f (good-head family (drop (p .at) s) (p .size) f here))
-      ∙ ap (answer family s) (sym (look-at-good (facts family) s (p .at) (p .size) f before here))
+      ap (λ (n : ℕ). Ready (record { start = p .at; length = p .length; reach = n; frame = f })) (is ∙ counted f (good-head family (drop (p .at) s) (p .length) f here))
+      ∙ ap (answer family s) (sym (look-at-good (facts family) s (p .at) (p .length) f before here))
 
   -- an undecided start, or the end
-  pub waiting : p .size ≡ 0 → Waiting (p .at) ≡ soughtIn family s
+  pub waiting : p .length ≡ 0 → Waiting (p .at) ≡ soughtIn family s
   unfolding soughtIn
   waiting none =
       elim (decLt (p .at) (length s)) [
@@ -62,14 +62,14 @@ module _ (family : ℕ) (s : List ℕ) (p : Stop) (stops : Stops family s 0 0 p)
       ]
 
   -- bytes that are refused: the walk goes on behind the stop
-  pub onward : (p .size ≡ 0 → ⊥) → headOf (p .size) (readOne family (take (p .size) (drop (p .at) s))) ≡ bad → (far : ℕ) → far ≡ max (p .reach) (p .at + p .size)
+  pub onward : (p .length ≡ 0 → ⊥) → headOf (p .length) (readOne family (take (p .length) (drop (p .at) s))) ≡ bad → (far : ℕ) → far ≡ max (p .reach) (p .at + p .length)
       → (q : Stop) → Stops family s (p .at + 1) far q → Stops family s 0 0 q
   onward some refused far to q next =
       let whole = stops .found .whole some in
-      let there = whole-there family s (p .at) (p .size) whole in
+      let there = whole-there family s (p .at) (p .length) whole in
       record {
         walks = followed family s 0 0 (p .at + 1) far (q .at) (q .reach)
-            (goes-on family s 0 0 (p .at) (p .reach) far (p .size) (stops .walks) (omega (arith, there .0, there .1)) (refused-whole family s (p .at) (p .size) whole refused) to)
+            (goes-on family s 0 0 (p .at) (p .reach) far (p .length) (stops .walks) (omega (arith, there .0, there .1)) (refused-whole family s (p .at) (p .length) whole refused) to)
             (next .walks);
         found = next .found;
       }
@@ -86,9 +86,9 @@ module _ (bs : List ℕ) (b : Begun bs) where
         ]
       ]
 
-  pub begun-waits : length bs < 75 → Stops 1 bs 0 0 (record { at = 0; size = 0; reach = 0 })
+  pub begun-waits : length bs < 75 → Stops 1 bs 0 0 (record { at = 0; length = 0; reach = 0 })
   begun-waits few = stops-waiting 1 bs 0 0 0 0 (begins 1 bs 0 0) (bytes-missing 1 refl bs (b .there) marks 75 (rw (b .count)) few)
 
-  pub begun-whole : 75 ≤ length bs → Stops 1 bs 0 0 (record { at = 0; size = 75; reach = 0 })
+  pub begun-whole : 75 ≤ length bs → Stops 1 bs 0 0 (record { at = 0; length = 75; reach = 0 })
   begun-whole enough =
       stops-to-read 1 bs 0 0 0 0 75 (begins 1 bs 0 0) (all-there 1 refl bs (b .there) marks 75 (rw (b .count)) (omega arith) enough)

@@ -133,17 +133,17 @@ module _ (family : ℕ) (bs : List ℕ) where
   refused-whole at n h e = (h .0 ∙ e, h .1)
 
   -- the stops of a walk: an undecided start, the end, and bytes to read
-  stops : (from far at on size : ℕ) → Walks family bs from far at on → AtStop family bs (record { at = at; size = size; reach = on })
-      → Stops family bs from far (record { at = at; size = size; reach = on })
+  stops : (from far at on size : ℕ) → Walks family bs from far at on → AtStop family bs (record { at = at; length = size; reach = on })
+      → Stops family bs from far (record { at = at; length = size; reach = on })
   stops from far at on size w f = record { walks = w; found = f }
 
-  pub stops-waiting : (from far at on : ℕ) → Walks family bs from far at on → head family (drop at bs) ≡ wait → Stops family bs from far (record { at = at; size = 0; reach = on })
+  pub stops-waiting : (from far at on : ℕ) → Walks family bs from far at on → head family (drop at bs) ≡ wait → Stops family bs from far (record { at = at; length = 0; reach = on })
   stops-waiting from far at on w e = stops from far at on 0 w (record { waits = λ none there. e; whole = λ some. absurd (some refl) })
 
-  pub stops-at-end : (from far at on : ℕ) → Walks family bs from far at on → length bs ≤ at → Stops family bs from far (record { at = at; size = 0; reach = on })
+  pub stops-at-end : (from far at on : ℕ) → Walks family bs from far at on → length bs ≤ at → Stops family bs from far (record { at = at; length = 0; reach = on })
   stops-at-end from far at on w end = stops from far at on 0 w (record { waits = λ none there. absurd (omega arith); whole = λ some. absurd (some refl) })
 
-  pub stops-to-read : (from far at on n : ℕ) → Walks family bs from far at on → WholeAt at n → Stops family bs from far (record { at = at; size = n; reach = on })
+  pub stops-to-read : (from far at on n : ℕ) → Walks family bs from far at on → WholeAt at n → Stops family bs from far (record { at = at; length = n; reach = on })
   stops-to-read from far at on n w h =
       stops from far at on n w (record { waits = λ none there. absurd (omega (arith, whole-there at n h .0)); whole = λ some. h })
 

@@ -16,9 +16,9 @@ use Rattle.search.specs.declared.First.the-variants.{At, Nothing}
 -- What stands at a stop: behind the last start nothing; else an undecided start, or as many bytes as a frame there has, of
 -- which the reader of one frame decides.
 pub record AtStop (family : ℕ) (bs : List ℕ) (r : Stop) : Type 0 where
-  pub waits : r .size ≡ 0 → r .at < length bs → head family (drop (r .at) bs) ≡ wait
-  pub whole : (r .size ≡ 0 → ⊥)
-      → (head family (drop (r .at) bs) ≡ headOf (r .size) (readOne family (take (r .size) (drop (r .at) bs)))) × (settled family (drop (r .at) bs) ≡ r .size)
+  pub waits : r .length ≡ 0 → r .at < length bs → head family (drop (r .at) bs) ≡ wait
+  pub whole : (r .length ≡ 0 → ⊥)
+      → (head family (drop (r .at) bs) ≡ headOf (r .length) (readOne family (take (r .length) (drop (r .at) bs)))) × (settled family (drop (r .at) bs) ≡ r .length)
 
 -- Two counts of how far bytes reach are the same for a frame that starts here or further on: it has at least as many bytes
 -- as the shortest, is settled by all of its own, and the further of the two counts; so what does not reach behind the

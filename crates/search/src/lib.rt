@@ -1,6 +1,6 @@
 // Walks the starts of some bytes: to the first that is not bad, or to the first good frame. Starts that a byte
 // further on rules out are passed together; any other is examined once, and a frame is read only where
-// nothing rules it out. `laying` has the same search with the row of what it finds.
+// nothing rules it out.
 
 use frames::read_frame;
 use rules::COMMANDS;
@@ -61,12 +61,12 @@ fn ruled_out(family: u8, s: &[u8]) -> bool
     !is_ack(s)
 }
 
-// A start that is not passed over: its place, the size of the frame that may stand there, and how far the
+// A start that is not passed over: its place, the length of the frame that may stand there, and how far the
 // bytes reach that settled the starts before it, exact where that is behind the bytes that even the shortest
-// frame there has. The size is 0 where the start is undecided, or the bytes end.
+// frame there has. The length is 0 where the start is undecided, or the bytes end.
 pub struct Stop {
     pub at: usize,
-    pub size: usize,
+    pub length: usize,
     pub reach: usize,
 }
 
@@ -93,8 +93,7 @@ fn passed_with(left: usize) -> usize
     1
 }
 
-// True only where no mark stands in a block of 16 bytes. No byte ends the loop, so that it can be compiled to test all
-// of them at once.
+// True only where no mark stands in a block of 16 bytes.
 fn no_mark(mark: u8, block: &[u8]) -> bool
     requires { ⌜ length (now block) ≡ 16 ⌝ }
     ensures { λ r. ⌜ (r ≡ true → Unmarked mark (now (block .entry)) 0 16) ⌝ }
@@ -108,8 +107,7 @@ fn no_mark(mark: u8, block: &[u8]) -> bool
     none
 }
 
-// A place behind whole blocks without a mark: no frame starts in them. Among commands, which are shorter than a block,
-// there are next to none, and none is looked for.
+// A place behind whole blocks without a mark: no frame starts in them. Only among replies is one looked for.
 fn past_unmarked(family: u8, mark: u8, s: &[u8], from: usize) -> usize
     requires { ⌜ from ≤ length (now s) ⌝ }
     ensures { λ r. ⌜ (from ≤ r) × (r ≤ length (now (s .entry))) × Unmarked mark (now (s .entry)) from r ⌝ }
@@ -141,20 +139,28 @@ fn packet_stop(family: u8, s: &[u8], from: usize, far: usize) -> Stop
             continue;
         }
         match examine(family, &s[at..]) {
-            Seen::Whole(size) => {
-                if !ruled_out(family, &s[at..at + size]) {
-                    return Stop { at, size, reach };
+            Seen::Whole(length) => {
+                if !ruled_out(family, &s[at..at + length]) {
+                    return Stop { at, length, reach };
                 }
-                reach = further(reach, at + size);
+                reach = further(reach, at + length);
                 at += 4; // its count is no mark
                 continue;
             }
-            Seen::Undecided => return Stop { at, size: 0, reach },
+            Seen::Undecided => return Stop {
+                at,
+                length: 0,
+                reach,
+            },
             Seen::Bad(_) => {}
         }
         at = past_unmarked(family, mark, s, at + passed_with(s.len() - at));
     }
-    Stop { at, size: 0, reach }
+    Stop {
+        at,
+        length: 0,
+        reach,
+    }
 }
 
 // The same of sentences. Before the byte that settled a bad one there is no other `$`; and what settles a start
@@ -170,14 +176,14 @@ fn sentence_stop(s: &[u8], from: usize, far: usize) -> Stop
             continue;
         }
         match examine(SENTENCES, &s[at..]) {
-            Seen::Whole(size) => return Stop {
+            Seen::Whole(length) => return Stop {
                 at,
-                size,
+                length,
                 reach: far,
             },
             Seen::Undecided => return Stop {
                 at,
-                size: 0,
+                length: 0,
                 reach: far,
             },
             Seen::Bad(d) => {
@@ -187,13 +193,13 @@ fn sentence_stop(s: &[u8], from: usize, far: usize) -> Stop
     }
     Stop {
         at,
-        size: 0,
+        length: 0,
         reach: far,
     }
 }
 
-// The first start from a place on that is undecided, or of which the reader of one frame has to decide. (Only
-// numbers go in and come back, so that nothing is copied; the caller reads the frame.)
+// The first start from a place on that is undecided, or of which the reader of one frame has to decide:
+// the caller reads the frame.
 pub fn next_stop(family: u8, s: &[u8], from: usize, far: usize) -> Stop
     ensures { λ r. ⌜ Stops family (now (s .entry)) from far r ⌝ }
 {
@@ -208,18 +214,18 @@ pub fn seek(family: u8, s: &[u8]) -> Sought
     ensures { λ r. ⌜ r ≡ soughtIn family (now (s .entry)) ⌝ }
 {
     let mut stop = next_stop(family, s, 0, 0);
-    while stop.size != 0 {
+    while stop.length != 0 {
         let at = stop.at;
-        let size = stop.size;
-        if let Reading::Good(frame) = read_frame(family, &s[at..at + size]) {
+        let length = stop.length;
+        if let Reading::Good(frame) = read_frame(family, &s[at..at + length]) {
             return Sought::Ready(Hit {
                 start: at,
-                length: size,
-                reach: further(stop.reach, at + size),
+                length,
+                reach: further(stop.reach, at + length),
                 frame,
             });
         }
-        stop = next_stop(family, s, at + 1, further(stop.reach, at + size));
+        stop = next_stop(family, s, at + 1, further(stop.reach, at + length));
     }
     Sought::Waiting(stop.at)
 }
@@ -231,11 +237,11 @@ pub fn first_good(family: u8, s: &[u8], from: usize) -> First
     let mut stop = next_stop(family, s, from, 0);
     while stop.at < s.len() {
         let at = stop.at;
-        let size = stop.size;
+        let length = stop.length;
         // an undecided start is no frame here
-        if size != 0 {
-            if let Reading::Good(frame) = read_frame(family, &s[at..at + size]) {
-                return First::At(at, size, frame);
+        if length != 0 {
+            if let Reading::Good(frame) = read_frame(family, &s[at..at + length]) {
+                return First::At(at, length, frame);
             }
         }
         stop = next_stop(family, s, at + 1, 0);

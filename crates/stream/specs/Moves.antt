@@ -1,13 +1,15 @@
 -- What a call on a reader's parts leaves beside the held places, in the words of the rules.
-use Prim.Native.Nat.{ℕ, _+_}
+use Prim.Native.Nat.{ℕ, _+_, _^_, _≤_, _<_}
 use mathlib.Core.Path.{_≡_}
 use mathlib.Core.List.{List, []}
-use lib.ListN.{take, drop}
+use lib.ListN.{length, take, drop}
+use denote.Ref.{now}
 use Rattle.rules.specs.declared.Frame.{Frame}
-use Rattle.stream_rules.specs.Heads.{head, atClose}
+use Rattle.stream_rules.specs.Heads.{longest, head, atClose}
 use Rattle.stream_rules.specs.Rule.{look, Call, gives, wants, call}
-use Rattle.stream_rules.specs.Streams.{wrap, openCall, closedCall}
+use Rattle.stream_rules.specs.Streams.{wrap, placeCount, openCall, closedCall}
 use Rattle.stream_rules.specs.declared.Answer.the-variants.{Ready, More, Done}
+use Rattle.held_bytes.specs.Held.{LentBytes}
 use Rattle.stream.specs.declared.moves.Moved.{Moved}
 use Rattle.stream.specs.Places.{readerAt, fedAt}
 
@@ -47,6 +49,22 @@ later t (wants taken k kept) = wants (t + taken) k kept
 -- the call speaks.)
 abbrev pub Opens : ℕ → ℕ → ℕ → Call → List ℕ → Moved → Type 0
 Opens family at skipped c left m = (closed : ℕ) → fedAt family closed left m ≡ openCall (readerAt family closed 0 [] at skipped) c
+
+-- The same of a call on bytes that are offered to a reader whose places are lent.
+abbrev pub OpensLent : ℕ → LentBytes → ℕ → ℕ → ℕ → LentBytes → Moved → Type 0
+OpensLent family held count at skipped offered m =
+    Opens family at skipped (call (head family) (take count (now (held .entry))) (now (offered .entry))) (now (held .exit)) m
+
+-- A reader of the family may hold so many bytes, and the places are as many as their type says.
+pub record MayHold (family count : ℕ) (held : List ℕ) : Type 0 where
+  pub low : count < longest family
+  pub places : length held ≡ placeCount
+
+-- Of the bytes so many were held, which a reader of the family may hold; and they can be counted behind those taken before.
+pub record Counted (family count taken : ℕ) (work : List ℕ) : Type 0 where
+  pub there : count ≤ length work
+  pub low : count < longest family
+  pub fits : taken + length work < 2 ^ 64
 
 -- The parts of a closed reader are drained, whatever its flag.
 abbrev pub Drains : ℕ → List ℕ → ℕ → ℕ → ℕ → List ℕ → Moved → Type 0

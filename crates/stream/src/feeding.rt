@@ -16,17 +16,12 @@ use starts::is_family;
 use starts::longest_frame;
 use stream_rules::PLACES;
 use texts::text;
-ghost use mathlib.Core.Path.{_≡_};
-ghost use Prim.Native.Nat.{_<_};
-ghost use lib.ListN.{length};
-ghost use Rattle.stream_rules.specs.Heads.{longest};
-ghost use Rattle.stream_rules.specs.Streams.{placeCount};
 ghost use Rattle.stream.specs.Places.{FeedsPlaces};
-ghost use Rattle.stream.specs.Moves.{Drains};
+ghost use Rattle.stream.specs.Moves.{MayHold, Drains};
 
 // A call on a closed reader: the next frame of what it holds, or done.
 fn drain(family: u8, held: &mut [u8; PLACES], count: usize, at: u32, skipped: u32) -> Moved
-    requires { ⌜ (count < longest family) × (length (now held) ≡ placeCount) ⌝ }
+    requires { ⌜ MayHold family count (now held) ⌝ }
     ensures { λ m. ⌜ Drains family (now (held .entry)) count at skipped (now (held .exit)) m ⌝ }
 {
     let bytes = text(held, 0, count);

@@ -11,12 +11,10 @@ use stream_rules::PLACES;
 use texts::further;
 use texts::text;
 ghost use mathlib.Core.Path.{_≡_};
-ghost use Prim.Native.Nat.{_+_, _^_, _≤_, _<_};
-ghost use lib.ListN.{length, take};
-ghost use Rattle.stream_rules.specs.Heads.{longest, head};
-ghost use Rattle.stream_rules.specs.Rule.{call};
+ghost use Prim.Native.Nat.{_≤_};
+ghost use lib.ListN.{length};
 ghost use Rattle.stream_rules.specs.Streams.{placeCount, filled};
-ghost use Rattle.stream.specs.Moves.{callOn, later, Opens};
+ghost use Rattle.stream.specs.Moves.{callOn, later, Opens, OpensLent, MayHold, Counted};
 
 // The bytes in the places, with zeros behind them.
 fn fill(places: &mut [u8; PLACES], bytes: &[u8])
@@ -38,7 +36,7 @@ fn turn_of(
     skipped: u32,
     places: &mut [u8; PLACES],
 ) -> Moved
-    requires { ⌜ (count ≤ length (now work)) × (count < longest family) × (taken + length (now work) < 2 ^ 64) ⌝ }
+    requires { ⌜ Counted family count taken (now work) ⌝ }
     ensures { λ m. ⌜ Opens family at skipped (later taken (callOn family (now (work .entry)) count)) (now (places .exit)) m ⌝ }
 {
     match seek(family, work) {
@@ -75,8 +73,8 @@ fn take_piece(
     skipped: u32,
     piece: &[u8],
 ) -> Moved
-    requires { ⌜ (count < longest family) × (count ≤ placeCount) × (length (now piece) ≤ placeCount) × (length (now held) ≡ placeCount) ⌝ }
-    ensures { λ m. ⌜ Opens family at skipped (call (head family) (take count (now (held .entry))) (now (piece .entry))) (now (held .exit)) m ⌝ }
+    requires { ⌜ MayHold family count (now held) × (length (now piece) ≤ placeCount) ⌝ }
+    ensures { λ m. ⌜ OpensLent family held count at skipped piece m ⌝ }
 {
     let mut work = [0u8; 266];
     put_bytes(&mut work, 0, text(held, 0, count));
@@ -95,8 +93,8 @@ pub(crate) fn advance(
     skipped: u32,
     offered: &[u8],
 ) -> Moved
-    requires { ⌜ (count < longest family) × (count ≤ placeCount) × (length (now held) ≡ placeCount) ⌝ }
-    ensures { λ m. ⌜ Opens family at skipped (call (head family) (take count (now (held .entry))) (now (offered .entry))) (now (held .exit)) m ⌝ }
+    requires { ⌜ MayHold family count (now held) ⌝ }
+    ensures { λ m. ⌜ OpensLent family held count at skipped offered m ⌝ }
 {
     if count == 0 {
         return turn_of(family, offered, 0, 0, at, skipped, held);

@@ -12,7 +12,7 @@ use texts::text;
 ghost use mathlib.Core.Path.{_≡_};
 ghost use mathlib.Core.Bool.{true};
 ghost use lib.ListN.{length};
-ghost use Rattle.row_stream.specs.FedRows.{FeedsRowAt};
+ghost use Rattle.row_stream.specs.FedRows.{FeedsLent};
 ghost use Rattle.row_stream.specs.Short.{HasRoom, IsFew};
 
 // True only where a reader of the family may hold so many bytes, and the places have room for the others behind them.
@@ -40,17 +40,17 @@ pub(crate) fn feed_few(
     numbers: &mut [i64],
 ) -> Counts
     requires { ⌜ IsFew family count (length (now few)) × HasRoom (now held) (now numbers) ⌝ }
-    ensures { λ c. ⌜ FeedsRowAt family 0 count (now (held .entry)) at skipped (now (few .entry)) (now (numbers .entry)) c (now (held .exit)) (now (numbers .exit)) ⌝ }
+    ensures { λ c. ⌜ FeedsLent family 0 count at skipped held few numbers c ⌝ }
 {
     let used = count as usize;
     lay(held, used, few);
     let all = used + few.len();
-    let place = seek_row(family, text(held, 0, all), used, at, skipped, numbers);
-    let from = place.start + place.length;
-    let left = place.to - from;
+    let stop = seek_row(family, text(held, 0, all), used, at, skipped, numbers);
+    let from = stop.at + stop.length;
+    let left = stop.reach - from;
     keep_part(held, from, left);
     // a frame has some bytes
-    if place.length == 0 {
+    if stop.length == 0 {
         return Counts {
             number: 0,
             count: left as u8,

@@ -4,7 +4,7 @@ use rows::read_row;
 use starts::bytes_needed;
 use starts::longest_frame;
 use stream_rules::PLACES;
-ghost use Rattle.row_stream.specs.Short.{HasRoom, FrontRow};
+ghost use Rattle.row_stream.specs.Short.{HasRoom, FrontLent};
 
 // Hands out the good frame of which the count at the front of the offered bytes tells the length, where these are no
 // fewer than the family's longest frame has: its row is laid, zeros are left in the places, and its length is given
@@ -18,7 +18,7 @@ pub(crate) fn front_frame(
     numbers: &mut [i64],
 ) -> usize
     requires { ⌜ HasRoom (now held) (now numbers) ⌝ }
-    ensures { λ n. ⌜ FrontRow family at skipped (now (offered .entry)) (now (held .entry)) (now (numbers .entry)) n (now (held .exit)) (now (numbers .exit)) ⌝ }
+    ensures { λ n. ⌜ FrontLent family at skipped held offered numbers n ⌝ }
 {
     if offered.len() < longest_frame(family) {
         return 0;

@@ -1,6 +1,5 @@
 // A call that decides nothing: the held bytes have begun a report or a sentence, the bytes offered go on with it, and
-// it is not whole yet. Most calls of few bytes are such ones. The offered bytes are looked at where they stand, and not
-// behind the held ones, where a load would wait for them to be written.
+// it is not whole yet. Nothing is searched: the tests on the held and on the offered bytes are enough.
 use crate::Counts;
 use crate::left_so;
 use held_bytes::keep_part;
@@ -17,10 +16,8 @@ use stream_rules::PLACES;
 use texts::text;
 ghost use mathlib.Core.Path.{_≡_};
 ghost use mathlib.Core.Bool.{true};
-ghost use lib.ListN.{length};
-ghost use Rattle.row_stream.specs.FedRows.{FeedsRowAt};
-ghost use Rattle.row_stream.specs.Going.{ReportGoesOn, SentenceGoesOn, GoesOn};
-ghost use Rattle.stream_rules.specs.Streams.{placeCount};
+ghost use Rattle.row_stream.specs.FedRows.{FeedsLent};
+ghost use Rattle.row_stream.specs.Going.{ReportGoesOn, SentenceGoesOn, GoesOn, GoesOnLent};
 ghost use Rattle.row_stream.specs.Short.{HasRoom};
 
 // True only where a report has begun in the held bytes, and is not whole with so many others.
@@ -60,7 +57,7 @@ fn sentence_goes_on(count: usize, held: &[u8; PLACES], others: &[u8]) -> bool
 
 // True only of such a call. Commands are too short for it.
 pub(crate) fn goes_on(family: u8, count: u8, held: &[u8; PLACES], others: &[u8]) -> bool
-    ensures { λ r. ⌜ (r ≡ true → length (now (held .entry)) ≡ placeCount → GoesOn family count (now (held .entry)) (now (others .entry))) ⌝ }
+    ensures { λ r. ⌜ (r ≡ true → GoesOnLent family count held others) ⌝ }
 {
     match family {
         REPLIES => report_goes_on(count as usize, held, others.len()),
@@ -80,7 +77,7 @@ pub(crate) fn feed_on(
     numbers: &mut [i64],
 ) -> Counts
     requires { ⌜ GoesOn family count (now held) (now others) × HasRoom (now held) (now numbers) ⌝ }
-    ensures { λ c. ⌜ FeedsRowAt family 0 count (now (held .entry)) at skipped (now (others .entry)) (now (numbers .entry)) c (now (held .exit)) (now (numbers .exit)) ⌝ }
+    ensures { λ c. ⌜ FeedsLent family 0 count at skipped held others numbers c ⌝ }
 {
     let used = count as usize;
     let all = used + others.len();

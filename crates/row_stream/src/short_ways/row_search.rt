@@ -1,5 +1,6 @@
-// A search that lays the row of what it finds: a frame's, where the frame stands, or that of "more wanted". No frame is
-// handed on, so that none is copied.
+// A search that lays the row of what it finds: a frame's, where the frame stands, or that of "more wanted". It gives the
+// stop that it came to, with how far the call takes bytes: a frame's start and length, up to what settled it, but no
+// less than was held; or the first undecided start, the length 0, and all the bytes.
 use rows::MORE_ROW;
 use rows::lay_head;
 use rows::read_row;
@@ -14,19 +15,11 @@ ghost use mathlib.Core.Path.{_≡_};
 ghost use mathlib.Core.Bool.{true};
 ghost use Prim.Native.Nat.{_≤_};
 ghost use lib.ListN.{length};
-ghost use Rattle.search.specs.Sought.{Stops, soughtIn};
+ghost use Rattle.search.specs.Sought.{Stops};
 ghost use Rattle.search.specs.declared.Sought.the-variants.{Waiting};
-ghost use Rattle.row_stream.specs.RowSought.{ReportBegun, LaysSought};
+ghost use Rattle.row_stream.specs.RowSought.{ReportBegun, LaysSought, RoomToSeek, SeeksRow};
 ghost use Rattle.rules.specs.Status.{reportLength};
 ghost use Rattle.rows.specs.Rows.{longestRow};
-
-// Where such a search came to: the frame's start and length, and how far the call takes bytes; or the first
-// undecided start, the length 0, and all the bytes.
-pub(crate) struct Place {
-    pub start: usize,
-    pub length: usize,
-    pub to: usize,
-}
 
 // True only where a report begins at the first byte, of family 1.
 fn report_begun(family: u8, s: &[u8]) -> bool
@@ -46,7 +39,7 @@ fn first_stop(family: u8, s: &[u8], begun: bool) -> Stop
     if begun {
         return Stop {
             at: 0,
-            size: REPORT_LENGTH,
+            length: REPORT_LENGTH,
             reach: 0,
         };
     }
@@ -54,15 +47,15 @@ fn first_stop(family: u8, s: &[u8], begun: bool) -> Stop
 }
 
 // More is wanted, from a start on.
-fn lay_waiting(all: usize, count: usize, from: usize, numbers: &mut [i64]) -> Place
+fn lay_waiting(all: usize, count: usize, from: usize, numbers: &mut [i64]) -> Stop
     requires { ⌜ (count ≤ all) × (longestRow ≤ length (now numbers)) ⌝ }
     ensures { λ p. ⌜ LaysSought all count 0 0 (Waiting from) (now (numbers .entry)) p (now (numbers .exit)) ⌝ }
 {
     lay_head(MORE_ROW, 0, all - count, 0, 0, 0, numbers);
-    Place {
-        start: from,
+    Stop {
+        at: from,
         length: 0,
-        to: all,
+        reach: all,
     }
 }
 
@@ -75,29 +68,29 @@ fn walk(
     skipped: u32,
     first: Stop,
     numbers: &mut [i64],
-) -> Place
-    requires { ⌜ Stops family (now s) 0 0 first × (count ≤ length (now s)) × (longestRow ≤ length (now numbers)) ⌝ }
-    ensures { λ p. ⌜ LaysSought (length (now (s .entry))) count at skipped (soughtIn family (now (s .entry))) (now (numbers .entry)) p (now (numbers .exit)) ⌝ }
+) -> Stop
+    requires { ⌜ Stops family (now s) 0 0 first × RoomToSeek count (now s) (now numbers) ⌝ }
+    ensures { λ p. ⌜ SeeksRow family s count at skipped numbers p ⌝ }
 {
     let mut stop = first;
-    while stop.size != 0 {
+    while stop.length != 0 {
         let start = stop.at;
-        let size = stop.size;
-        let reach = further(stop.reach, start + size);
+        let length = stop.length;
+        let reach = further(stop.reach, start + length);
         let to = further(reach, count);
         let number = read_row(
             family,
-            &s[start..start + size],
+            &s[start..start + length],
             to - count,
             advanced(at, start),
             advanced(skipped, start),
             numbers,
         );
         if number == 0 {
-            return Place {
-                start,
-                length: size,
-                to,
+            return Stop {
+                at: start,
+                length,
+                reach: to,
             };
         }
         stop = next_stop(family, s, start + 1, reach);
@@ -114,9 +107,9 @@ pub(crate) fn seek_row(
     at: u32,
     skipped: u32,
     numbers: &mut [i64],
-) -> Place
-    requires { ⌜ (count ≤ length (now s)) × (longestRow ≤ length (now numbers)) ⌝ }
-    ensures { λ p. ⌜ LaysSought (length (now (s .entry))) count at skipped (soughtIn family (now (s .entry))) (now (numbers .entry)) p (now (numbers .exit)) ⌝ }
+) -> Stop
+    requires { ⌜ RoomToSeek count (now s) (now numbers) ⌝ }
+    ensures { λ p. ⌜ SeeksRow family s count at skipped numbers p ⌝ }
 {
     let begun = report_begun(family, s);
     if begun & (s.len() < REPORT_LENGTH) {

@@ -87,22 +87,22 @@ module _ (k : tie.At-loop Inv-loop μ-loop) where
 
   -- the bytes of a frame at the stop, and that a call is lent them
   abbrev frame : List ℕ
-  frame = take (stop .size) (drop (stop .at) bytes)
+  frame = take (stop .length) (drop (stop .at) bytes)
 
-  lent : take (stop .at + stop .size - stop .at) (drop (stop .at) bytes) ≡ frame
-  lent = part-there family bytes (stop .at) (stop .size)
+  lent : take (stop .at + stop .length - stop .at) (drop (stop .at) bytes) ≡ frame
+  lent = part-there family bytes (stop .at) (stop .length)
 
 -- Where the reader of one frame is to decide,
 module _ (c : tie.Then2 Inv-loop μ-loop) where
   abbrev turn : tie.At-loop Inv-loop μ-loop
   turn = c .before .before .before
 
-  abbrev whole : WholeAt (family turn) (bytes turn) (stop turn .at) (stop turn .size)
+  abbrev whole : WholeAt (family turn) (bytes turn) (stop turn .at) (stop turn .length)
   whole = turn .loop .inv .1 .whole (c .if2 .taken)
 
   -- the frame's bytes are there,
-  there : (0 < stop turn .size) × (stop turn .size ≤ length (bytes turn) - stop turn .at)
-  there = whole-there (family turn) (bytes turn) (stop turn .at) (stop turn .size) whole
+  there : (0 < stop turn .length) × (stop turn .length ≤ length (bytes turn) - stop turn .at)
+  there = whole-there (family turn) (bytes turn) (stop turn .at) (stop turn .length) whole
 
 -- and it has read them.
 module _ (c : tie.After-read-frame Inv-loop μ-loop) where
@@ -119,7 +119,7 @@ not-here : (c : tie.Joined2 Inv-loop μ-loop)
 not-here c =
     let k = c .before .before .before in
     let found = k .loop .inv .1 in
-    let size = stop k .size in
+    let length = stop k .length in
     ⊎-elim
     (λ w.
     let read = ap (readOne (family k)) (sym (lent k)) ∙ sym (w .2 .ensures .answers) in
@@ -155,7 +155,7 @@ returns : tie.Need-returns Inv-loop μ-loop
 returns c =
     let read = c .before .before .before in
     let k = turn (to-read read) in
-    let good = ap (headOf (stop k .size)) (sym (was-read read) ∙ c .before .frame .given .1) in
+    let good = ap (headOf (stop k .length)) (sym (was-read read) ∙ c .before .frame .given .1) in
     ready (family k) (bytes k) (from k) (stop k .at) (k .loop .inv .0) _ _ (whole (to-read read) .0 ∙ good)
 
 enum-told : tie.Need-enum-told Inv-loop μ-loop

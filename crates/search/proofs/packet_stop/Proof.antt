@@ -113,10 +113,10 @@ module _ (c : tie.After-known-told Inv-loop μ-loop) where
   whole-turn = seen-turn examined
 
   abbrev size : ℕ
-  size = c .before .size .given .0 .0
+  length = c .before .length .given .0 .0
 
   to-read : WholeAt (family whole-turn) (bytes whole-turn) (at whole-turn) size
-  to-read = seen-whole (family whole-turn) (here whole-turn) size (sym (saw examined) ∙ c .before .size .given .1)
+  to-read = seen-whole (family whole-turn) (here whole-turn) size (sym (saw examined) ∙ c .before .length .given .1)
 
   enough : size ≤ length (bytes whole-turn) - at whole-turn
   enough = whole-there (family whole-turn) (bytes whole-turn) (at whole-turn) size to-read .1
@@ -125,7 +125,7 @@ module _ (c : tie.After-known-told Inv-loop μ-loop) where
   six =
       let k = whole-turn in
       let some = whole-there (family k) (bytes k) (at k) size to-read .0 in
-      whole-size (family k) (spe k) (here k) size some (sym (saw examined) ∙ c .before .size .given .1)
+      whole-size (family k) (spe k) (here k) size some (sym (saw examined) ∙ c .before .length .given .1)
 
   four : 4 ≤ length (bytes whole-turn) - at whole-turn
   four = omega (arith, six, enough)
@@ -225,8 +225,8 @@ part-examine-end c = omega arith
 examine-requires : tie.Need-examine-requires Inv-loop μ-loop
 examine-requires c κs = search needs
 
-enum-known-size : tie.Need-enum-known-size Inv-loop μ-loop
-enum-known-size c = search needs
+enum-known-length : tie.Need-enum-known-length Inv-loop μ-loop
+enum-known-length c = search needs
 
 add-ruled-out : tie.Need-add-ruled-out Inv-loop μ-loop
 add-ruled-out c = omega (arith, enough c)
@@ -331,7 +331,7 @@ packet-stop-spec =
     part-examine-start
     part-examine-end
     examine-requires
-    enum-known-size
+    enum-known-length
     add-ruled-out
     sub-ruled-out
     part-ruled-out-start

@@ -35,19 +35,19 @@ module _ (k : tie.At-loop Inv-loop μ-loop) where
 
   -- the bytes of a frame at the stop
   abbrev frame : List ℕ
-  frame = take (stop .size) (drop (stop .at) bytes)
+  frame = take (stop .length) (drop (stop .at) bytes)
 
 -- Where the reader of one frame is to decide,
 module _ (c : tie.Then1 Inv-loop μ-loop) where
   abbrev turn : tie.At-loop Inv-loop μ-loop
   turn = c .before .before
 
-  abbrev whole : WholeAt (family turn) (bytes turn) (stop turn .at) (stop turn .size)
+  abbrev whole : WholeAt (family turn) (bytes turn) (stop turn .at) (stop turn .length)
   whole = turn .loop .inv .found .whole (c .if1 .taken)
 
   -- the frame's bytes are there,
-  there : (0 < stop turn .size) × (stop turn .size ≤ length (bytes turn) - stop turn .at)
-  there = whole-there (family turn) (bytes turn) (stop turn .at) (stop turn .size) whole
+  there : (0 < stop turn .length) × (stop turn .length ≤ length (bytes turn) - stop turn .at)
+  there = whole-there (family turn) (bytes turn) (stop turn .at) (stop turn .length) whole
 
 -- and it has read them.
 module _ (c : tie.After-read-frame Inv-loop μ-loop) where
@@ -57,7 +57,7 @@ module _ (c : tie.After-read-frame Inv-loop μ-loop) where
   was-read : c .read-frame .result ≡ readOne (family (turn to-read)) (frame (turn to-read))
   was-read =
       let k = turn to-read in
-      c .read-frame .ensures .answers ∙ ap (readOne (family k)) (part-there (family k) (bytes k) (stop k .at) (stop k .size))
+      c .read-frame .ensures .answers ∙ ap (readOne (family k)) (part-there (family k) (bytes k) (stop k .at) (stop k .length))
 
 next-stop-requires : tie.Need-next-stop-requires Inv-loop μ-loop
 next-stop-requires c κs = search needs
@@ -93,7 +93,7 @@ returns : tie.Need-returns Inv-loop μ-loop
 returns c =
     let read = c .before .before .before .before in
     let k = turn (to-read read) in
-    let good = ap (headOf (stop k .size)) (sym (was-read read) ∙ c .before .before .frame .given .1) in
+    let good = ap (headOf (stop k .length)) (sym (was-read read) ∙ c .before .before .frame .given .1) in
     ready (family k) (bytes k) (stop k) (k .loop .inv) _ _ (whole (to-read read) .0 ∙ good) (c .further .ensures)
 
 enum-told : tie.Need-enum-told Inv-loop μ-loop
@@ -118,7 +118,7 @@ loop-again : tie.Need-loop-again Inv-loop μ-loop
 loop-again c =
     let read = c .before .before .before .before in
     let k = turn (to-read read) in
-    let refused = ap (headOf (stop k .size)) (sym (was-read read) ∙ c .before .before .enum-told .given .1) in
+    let refused = ap (headOf (stop k .length)) (sym (was-read read) ∙ c .before .before .enum-told .given .1) in
     onward (family k) (bytes k) (stop k) (k .loop .inv) (to-read read .if1 .taken) refused
     _ (c .before .further2 .ensures) _ (c .next-stop2 .ensures)
 

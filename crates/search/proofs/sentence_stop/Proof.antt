@@ -121,14 +121,14 @@ part-examine-end c = omega arith
 examine-requires : tie.Need-examine-requires Inv-loop μ-loop
 examine-requires c κs = search needs
 
-enum-known-size : tie.Need-enum-known-size Inv-loop μ-loop
-enum-known-size c = search needs
+enum-known-length : tie.Need-enum-known-length Inv-loop μ-loop
+enum-known-length c = search needs
 
 returns : tie.Need-returns Inv-loop μ-loop
 returns c =
     let examined-here = c .before .before .before in
     let k = turn examined-here in
-    let is = sym (saw examined-here) ∙ c .before .size .given .1 in
+    let is = sym (saw examined-here) ∙ c .before .length .given .1 in
     stops-to-read sentences (bytes k) (from k) (far k) (at k) (far k) _ (k .loop .inv) (seen-whole sentences (here k) _ is)
 
 enum-told : tie.Need-enum-told Inv-loop μ-loop
@@ -183,7 +183,7 @@ sentence-stop-spec =
     part-examine-start
     part-examine-end
     examine-requires
-    enum-known-size
+    enum-known-length
     returns
     enum-told
     returns-2

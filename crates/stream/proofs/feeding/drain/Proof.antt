@@ -29,10 +29,10 @@ size c =
     let start = c .before .before .before in
     ap length (c .text .ensures .content)
     ∙ length-take (start .args .count) (start .args .held .now)
-    ∙ omega (arith, start .pre .0, start .pre .1, longest-fits (start .args .family))
+    ∙ omega (arith, start .pre .low, start .pre .places, longest-fits (start .args .family))
 
 few : (c : tie.After-text) → length (c .text .result .now) ≤ 133
-few c = omega (arith, size c, c .before .before .before .pre .0, longest-fits (c .before .before .before .args .family))
+few c = omega (arith, size c, c .before .before .before .pre .low, longest-fits (c .before .before .before .args .family))
 
 text-requires : tie.Need-text-requires
 text-requires c κs = search needs
@@ -79,7 +79,7 @@ module _ (c : tie.After-keep-part) where
   keeps =
       let start = text .before .before .before in
       let left = length bytes - behind in
-      c .keep-part .ensures (start .pre .1)
+      c .keep-part .ensures (start .pre .places)
       ∙ ap filled
       (sym (part-of-front (start .args .held .now) (start .args .count) behind left (omega (arith, found (c .before .before .before) .there, size text)))
       ∙ ap (part behind left) (sym (text .text .ensures .content)))

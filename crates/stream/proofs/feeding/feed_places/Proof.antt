@@ -15,7 +15,7 @@ use Rattle.stream_rules.specs.Rule.{Call, call}
 use Rattle.stream_rules.specs.Streams.{holds, fed}
 use Rattle.stream_rules.specs.declared.Reader.{Reader}
 use Rattle.stream_laws.proofs.Facts.{top-above}
-use Rattle.stream_laws.proofs.States.{longest-fits, refused-1, refused-6, refused-5, open-call, closed-call}
+use Rattle.stream_laws.proofs.States.{refused-1, refused-6, refused-5, open-call, closed-call}
 use Rattle.stream_laws.proofs.Saying.{feeds}
 use Rattle.stream_laws.proofs.Families.{facts}
 use Rattle.stream.specs.Places.{readerAt, fedAt}
@@ -106,7 +106,7 @@ returns-3 c = λ held.
 advance-requires : tie.Need-advance-requires
 advance-requires c κs =
     let passed = c .before .before in
-    (few passed, omega (arith, few passed, longest-fits (start passed .args .family)), long passed)
+    record { low = few passed; places = long passed }
 
 returns-4 : tie.Need-returns-4
 returns-4 c = λ held.
@@ -129,7 +129,7 @@ returns-5 c = λ held.
     ∙ sym (refused-5 (reader s) (s .args .offered .now) (family passed) (room passed) (closed .if4 .left) (c .before .if5 .taken)))
 
 drain-requires : tie.Need-drain-requires
-drain-requires c κs = let passed = c .before .before .before in (few passed, long passed)
+drain-requires c κs = let passed = c .before .before .before in record { low = few passed; places = long passed }
 
 returns-6 : tie.Need-returns-6
 returns-6 c = λ held.

@@ -95,7 +95,7 @@ take-piece-requires : tie.Need-take-piece-requires
 take-piece-requires c κs =
     let s = c .before .before .before .before in
     let size = ap length (c .text .ensures .content) ∙ length-take 133 (s .args .offered .now) in
-    (s .pre .0, s .pre .1, omega (arith, size), s .pre .2)
+    (s .pre, omega (arith, size))
 
 returns-2 : tie.Need-returns-2
 returns-2 c = let p = c .before in subst (Made p) (ap (on p) (take-all 133 (offered p) (c .if2 .taken))) (taken-so p)
@@ -133,7 +133,11 @@ turn-of-requires-2 c κs =
     let from = 133 - m p .count in
     let size = ap length (whole-rest (offered p) from) ∙ length-drop from (offered p) in
     let there = k .before .before .if2 .left in
-    (omega (arith, size, fits k, there), next k .short, omega (arith, size, next k .all-taken, start p .good))
+    record {
+      there = omega (arith, size, fits k, there);
+      low = next k .short;
+      fits = omega (arith, size, next k .all-taken, start p .good);
+    }
 
 returns-4 : tie.Need-returns-4
 returns-4 c =

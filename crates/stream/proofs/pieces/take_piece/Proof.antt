@@ -9,6 +9,7 @@ use lib.ListN.{length, take, length-append}
 use lib.Seq.{length-take-le}
 use Rattle.pens.specs.Pens.{laid}
 use Rattle.stream_rules.specs.Rule.{Call}
+use Rattle.stream_laws.proofs.States.{longest-fits}
 use Rattle.stream.specs.Moves.{callOn, Opens}
 use Rattle.held_bytes.proofs.Buffers.{zeros, length-zeros, joins}
 use Rattle.stream.proofs.Opening.{from-none}
@@ -40,10 +41,10 @@ module _ (c : tie.After-text2) where
   bytes = c .text2 .result .now
 
   size : length held ≡ count
-  size = length-take-le count (start .args .held .now) (omega (arith, start .pre .1, start .pre .3))
+  size = length-take-le count (start .args .held .now) (omega (arith, start .pre .0 .low, longest-fits (start .args .family), start .pre .0 .places))
 
   room : length held + length piece ≤ length (zeros 266)
-  room = omega (arith, length-zeros 266, size, start .pre .1, start .pre .2)
+  room = omega (arith, length-zeros 266, size, start .pre .0 .low, longest-fits (start .args .family), start .pre .1)
 
   -- both are laid into it
   laid-both : second .put-bytes2 .last .0 ≡ laid count piece (laid 0 held (zeros 266))
@@ -80,7 +81,10 @@ slice-aggregate-text : tie.Need-slice-aggregate-text
 slice-aggregate-text c = search needs
 
 add-text : tie.Need-add-text
-add-text c = search needs
+add-text c =
+    let laid = c .before .before in
+    let s = laid .before .before .before .before .before .before .before .before .before in
+    omega (arith, s .pre .0 .low, longest-fits (s .args .family), s .pre .1)
 
 text-requires-2 : tie.Need-text-requires-2
 text-requires-2 c κs = search needs
@@ -90,7 +94,8 @@ turn-of-requires c κs =
     let t = c .before in
     let pre = start t .pre in
     let size = bytes-length t in
-    (omega (arith, size), pre .0, omega (arith, size, pre .1, pre .2))
+    let few = longest-fits (start t .args .family) in
+    record { there = omega (arith, size); low = pre .0 .low; fits = omega (arith, size, pre .0 .low, few, pre .1) }
 
 returns : tie.Need-returns
 returns c =

@@ -25,7 +25,7 @@ cuts : (c : tie.After-from)
     → let a = from-waiting c .args in Cuts (a .family) (a .work .now) (a .count) (c .from .given .0 .0) (length (a .work .now)) (wants (length (a .work .now) - a .count) (c .from .given .0 .0))
 cuts c =
     let s = from-waiting c in
-    cut-waiting (s .args .family) (s .args .work .now) (s .args .count) (s .pre .0) (s .pre .1) _ (sym (c .before .before .seek .ensures) ∙ c .from .given .1)
+    cut-waiting (s .args .family) (s .args .work .now) (s .args .count) (s .pre .there) (s .pre .low) _ (sym (c .before .before .seek .ensures) ∙ c .from .given .1)
 
 kept-waiting : (c : tie.After-text) → let found = c .before .before .before in length (from-waiting found .args .work .now) - found .from .given .0 .0 ≤ 133
 kept-waiting c = let found = c .before .before .before in omega (arith, cuts found .short, longest-fits (from-waiting found .args .family))
@@ -48,7 +48,7 @@ cuts-hit : (c : tie.After-hit) (to : ℕ) → to ≡ max (hit c .reach) (from-hi
     → let a = from-hit c .args in Cuts (a .family) (a .work .now) (a .count) (hit c .start + hit c .length) to (gives (to - a .count) (hit c .start) (hit c .length) (hit c .frame))
 cuts-hit c to is =
     let s = from-hit c in
-    cut-ready (s .args .family) (s .args .work .now) (s .args .count) (s .pre .0) (s .pre .1) (hit c) to (sym (c .before .before .seek .ensures) ∙ c .hit .given .1) is
+    cut-ready (s .args .family) (s .args .work .now) (s .args .count) (s .pre .there) (s .pre .low) (hit c) to (sym (c .before .before .seek .ensures) ∙ c .hit .given .1) is
 
 abbrev found : tie.After-further → tie.After-hit
 found c = c .before .before .before
@@ -113,7 +113,7 @@ sub-handed-out : tie.Need-sub-handed-out
 sub-handed-out c = search needs
 
 add-handed-out : tie.Need-add-handed-out
-add-handed-out c = let f = c .before .before .before in omega (arith, cuts-further f .within, from-hit (f .before .before .before) .pre .2)
+add-handed-out c = let f = c .before .before .before in omega (arith, cuts-further f .within, from-hit (f .before .before .before) .pre .fits)
 
 handed-out-requires : tie.Need-handed-out-requires
 handed-out-requires c κs =

@@ -14,7 +14,7 @@ use Rattle.pens.specs.Pens.{laid as laidAt}
 use Rattle.held_bytes.proofs.Appending.{at-front, front-long, still-133}
 use Rattle.held_bytes.proofs.Keeping.{part-of-front}
 use Rattle.row_stream.specs.Short.{IsFew}
-use Rattle.row_stream.specs.declared.short_ways.row_search.Place.{Place}
+use Rattle.search.specs.declared.Stop.{Stop}
 use Rattle.row_stream.proofs.Few.{FewAt, few-at}
 use borrow.Author.Needs.{needs}
 use Rattle.row_stream.proofs.short_ways.few.feed_few.Statement.{statement}
@@ -72,8 +72,8 @@ module _ (k : tie.After-seek-row) where
   abbrev t : tie.After-text
   t = k .before .before
 
-  abbrev place : Place
-  place = k .seek-row .result
+  abbrev stop : Stop
+  stop = k .seek-row .result
 
   abbrev after : List ℤ
   after = k .seek-row .last .1 .1 .1 .1 .1 .0
@@ -85,23 +85,23 @@ module _ (k : tie.After-seek-row) where
   a-few = start t .pre .0
 
   abbrev from : ℕ
-  from = place .start + place .length
+  from = stop .at + stop .length
 
   found : FewAt family (count t) (start t .args .at) (start t .args .skipped) (places t) (few t) (bytes t) (numbers t)
-      (a-few .a-family) (a-few .low) (there t) (bytes-are t) (room t) after place
+      (a-few .a-family) (a-few .low) (there t) (bytes-are t) (room t) after stop
   found =
       few-at family (count t) (start t .args .at) (start t .args .skipped) (places t) (few t) (bytes t) (numbers t)
-      (a-few .a-family) (a-few .low) (there t) (bytes-are t) (room t) place after (k .seek-row .ensures)
+      (a-few .a-family) (a-few .low) (there t) (bytes-are t) (room t) stop after (k .seek-row .ensures)
 
   -- what is left of the places is what is kept of the bytes
-  keeps : (l : List ℕ) → (length (laid t) ≡ 133 → l ≡ filled (part from (place .to - from) (laid t))) → l ≡ filled (part from (place .to - from) (bytes t))
+  keeps : (l : List ℕ) → (length (laid t) ≡ 133 → l ≡ filled (part from (stop .reach - from) (laid t))) → l ≡ filled (part from (stop .reach - from) (bytes t))
   keeps l e =
-      let left = place .to - from in
+      let left = stop .reach - from in
       e (still-133 (count t) (few t) (places t) (long t) (behind t) (laid t) (laid-is t))
       ∙ ap filled (sym (part-of-front (laid t) (all t) from left (omega (arith, found .order, found .within, bytes-length t))))
       ∙ ap (λ (b : List ℕ). filled (part from left b)) (sym (t .text .ensures .content))
 
-  fits : place .to - from ≤ 133
+  fits : stop .reach - from ≤ 133
   fits = omega (arith, found .short, longest-fits family)
 
 lay-requires : tie.Need-lay-requires
@@ -114,7 +114,7 @@ text-requires : tie.Need-text-requires
 text-requires c κs = search needs
 
 seek-row-requires : tie.Need-seek-row-requires
-seek-row-requires c κs = (omega (arith, bytes-length (c .before)), room (c .before))
+seek-row-requires c κs = record { there = omega (arith, bytes-length (c .before)); row = room (c .before) }
 
 add-from : tie.Need-add-from
 add-from c = let k = c .before .before in omega (arith, found k .order, found k .within, bytes-length (t k), behind (t k))

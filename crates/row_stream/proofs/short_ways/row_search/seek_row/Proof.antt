@@ -9,7 +9,7 @@ use Rattle.frame_laws.proofs.Bytes.{both}
 use Rattle.rows.specs.Rows.{front}
 use Rattle.spe.proofs.Beginning.{begun}
 use Rattle.search.specs.Sought.{soughtIn, Stops}
-use Rattle.row_stream.specs.RowSought.{placeOf, rowOf}
+use Rattle.row_stream.specs.RowSought.{stopOf, rowOf}
 use Rattle.search.specs.declared.Sought.{Sought}
 use Rattle.search.proofs.Searching.{waiting, begun-waits}
 use borrow.Author.Needs.{needs}
@@ -20,7 +20,7 @@ report-begun-requires : tie.Need-report-begun-requires
 report-begun-requires c κs = search needs
 
 lay-waiting-requires : tie.Need-lay-waiting-requires
-lay-waiting-requires c κs = c .before .before .before .before .pre
+lay-waiting-requires c κs = let pre = c .before .before .before .before .pre in (pre .there, pre .row)
 
 same-length : tie.Need-same-length
 same-length c = search needs
@@ -32,12 +32,12 @@ returns c =
     let s = a .s .now in
     let tests = both (then .before .report-begun .result) (ltb (length s) 75) (then .if1 .taken) in
     let report = then .before .report-begun .ensures (tests .0) in
-    let stops : Stops (a .family) s 0 0 (record { at = 0; size = 0; reach = 0 }) =
+    let stops : Stops (a .family) s 0 0 (record { at = 0; length = 0; reach = 0 }) =
     rw (report .0) (begun-waits s (begun s (report .1)) (ltb-true (length s) 75 (tests .1))) in
     let is = waiting (a .family) s _ stops refl in
     let waits = c .before .lay-waiting .ensures in
     record {
-      found = waits .found ∙ ap (placeOf (length s) (a .count)) is;
+      found = waits .found ∙ ap (stopOf (length s) (a .count)) is;
       laid = waits .laid ∙ ap (λ (x : Sought). front (rowOf (length s) (a .count) (a .at) (a .skipped) x) (a .numbers .now)) is;
     }
 
@@ -49,7 +49,7 @@ first-stop-requires c κs = λ begun.
 walk-requires : tie.Need-walk-requires
 walk-requires c κs =
     let pre = c .before .before .before .before .before .pre in
-    (c .before .first-stop .ensures, pre .0, pre .1)
+    (c .before .first-stop .ensures, pre)
 
 same-length-2 : tie.Need-same-length-2
 same-length-2 c = search needs

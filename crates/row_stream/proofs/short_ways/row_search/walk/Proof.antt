@@ -15,7 +15,7 @@ use Rattle.stream_rules.specs.Heads.{headOf}
 use Rattle.stream_laws.proofs.Course.{headOf-bad}
 use Rattle.rows.specs.Rows.{row, rowWithout, front}
 use Rattle.search.specs.Sought.{soughtIn, Stops}
-use Rattle.row_stream.specs.RowSought.{placeOf, rowOf}
+use Rattle.row_stream.specs.RowSought.{stopOf, rowOf}
 use Rattle.search.specs.declared.Sought.{Sought}
 use Rattle.search.specs.declared.Sought.the-variants.{Ready}
 use Rattle.search.specs.declared.Stop.{Stop}
@@ -31,50 +31,75 @@ Inv-loop family s count at skipped numbers₀ stop₀ numbers stop = Stops famil
 abbrev μ-loop : tie.MeasureT-loop
 μ-loop family s count at skipped numbers₀ stop₀ numbers stop = length s - stop .at
 
--- the frame's bytes are there
-there : (c : tie.Then1 Inv-loop μ-loop) → (0 < c .before .before .loop .stop .size) × (c .before .before .loop .stop .size ≤ length (c .before .before .before .before .args .s .now) - c .before .before .loop .stop .at)
-there c = whole-there (c .before .before .before .before .args .family) (c .before .before .before .before .args .s .now) (c .before .before .loop .stop .at) (c .before .before .loop .stop .size) (c .before .before .loop .inv .0 .found .whole (c .if1 .taken))
+-- where the loop goes on: the stop that it has come to, and the bytes of a frame there
+module _ (c : tie.Then1 Inv-loop μ-loop) where
+  abbrev loop : tie.At-loop Inv-loop μ-loop
+  loop = c .before .before
 
--- What was read at the stop, of which the search knows how it stands to the rules.
-module _ (r : tie.After-read-row Inv-loop μ-loop) where
+  abbrev start : tie.Start Inv-loop μ-loop
+  start = loop .before .before
+
   abbrev s : List ℕ
-  s = r .before .before .before .before .before .before .before .before .before .before .before .args .s .now
+  s = start .args .s .now
 
   abbrev family : ℕ
-  family = r .before .before .before .before .before .before .before .before .before .before .before .args .family
+  family = start .args .family
 
   abbrev stop : Stop
-  stop = r .before .before .before .before .before .before .before .before .before .loop .stop
+  stop = loop .loop .stop
 
   abbrev stops : Stops family s 0 0 stop
-  stops = r .before .before .before .before .before .before .before .before .before .loop .inv .0
+  stops = loop .loop .inv .0
 
   abbrev bytes : List ℕ
-  bytes = take (stop .at + stop .size - stop .at) (drop (stop .at) s)
+  bytes = take (stop .at + stop .length - stop .at) (drop (stop .at) s)
 
-  the-part : bytes ≡ take (stop .size) (drop (stop .at) s)
-  the-part = part-there family s (stop .at) (stop .size)
+  -- the frame's bytes are there
+  there : (0 < stop .length) × (stop .length ≤ length s - stop .at)
+  there = whole-there family s (stop .at) (stop .length) (stops .found .whole (c .if1 .taken))
 
-  long-enough : length bytes ≡ stop .size
-  long-enough = ap length the-part ∙ length-take-le (stop .size) (drop (stop .at) s) (omega (arith, there (r .before .before .before .before .before .before .before), length-drop (stop .at) s))
+  the-part : bytes ≡ take (stop .length) (drop (stop .at) s)
+  the-part = part-there family s (stop .at) (stop .length)
 
-  room : 26 ≤ length (r .before .before .before .before .before .before .before .before .before .loop .numbers)
-  room = omega (arith, r .before .before .before .before .before .before .before .before .before .before .before .pre .2, ap length (r .before .before .before .before .before .before .before .before .before .loop .inv .1))
+  long-enough : length bytes ≡ stop .length
+  long-enough = ap length the-part ∙ length-take-le (stop .length) (drop (stop .at) s) (omega (arith, there, length-drop (stop .at) s))
+
+  room : 26 ≤ length (loop .loop .numbers)
+  room = omega (arith, start .pre .1 .row, ap length (loop .loop .inv .1))
+
+-- what was read there, of which the search knows how it stands to the rules
+module _ (r : tie.After-read-row Inv-loop μ-loop) where
+  abbrev passed : tie.After-advanced2 Inv-loop μ-loop
+  passed = r .before .before
+
+  abbrev taken : tie.After-further2 Inv-loop μ-loop
+  taken = passed .before .before .before
+
+  abbrev reached : tie.After-further Inv-loop μ-loop
+  reached = taken .before
+
+  abbrev here : tie.Then1 Inv-loop μ-loop
+  here = reached .before
 
   -- a good frame is what was sought
-  sought : (f : Frame) → readOne family bytes ≡ Good f
-      → Ready (record { start = stop .at; length = stop .size; reach = r .before .before .before .before .before .before .further .result; frame = f }) ≡ soughtIn family s
+  sought : (f : Frame) → readOne (family here) (bytes here) ≡ Good f
+      → Ready (record { start = stop here .at; length = stop here .length; reach = reached .further .result; frame = f }) ≡ soughtIn (family here) (s here)
   sought f is =
-      ready family s stop stops f _
-      (stops .found .whole (r .before .before .before .before .before .before .before .if1 .taken) .0 ∙ ap (λ (l : List ℕ). headOf (stop .size) (readOne family l)) (sym the-part) ∙ ap (headOf (stop .size)) is)
-      (r .before .before .before .before .before .before .further .ensures)
+      let n = stop here .length in
+      ready (family here) (s here) (stop here) (stops here) f _
+      (stops here .found .whole (here .if1 .taken) .0
+      ∙ ap (λ (l : List ℕ). headOf n (readOne (family here) l)) (sym (the-part here))
+      ∙ ap (headOf n) is)
+      (reached .further .ensures)
 
   -- and where it is none, the search goes on
-  further-on : ((f : Frame) → readOne family bytes ≡ Good f → ⊥) → (q : Stop) → Stops family s (stop .at + 1) (r .before .before .before .before .before .before .further .result) q → Stops family s 0 0 q
+  further-on : ((f : Frame) → readOne (family here) (bytes here) ≡ Good f → ⊥) → (q : Stop)
+      → Stops (family here) (s here) (stop here .at + 1) (reached .further .result) q → Stops (family here) (s here) 0 0 q
   further-on never q next =
-      onward family s stop stops (r .before .before .before .before .before .before .before .if1 .taken)
-      (headOf-bad (stop .size) (readOne family (take (stop .size) (drop (stop .at) s))) (λ f is. never f (ap (readOne family) the-part ∙ is)))
-      _ (r .before .before .before .before .before .before .further .ensures) q next
+      let read = readOne (family here) (take (stop here .length) (drop (stop here .at) (s here))) in
+      onward (family here) (s here) (stop here) (stops here) (here .if1 .taken)
+      (headOf-bad (stop here .length) read (λ f is. never f (ap (readOne (family here)) (the-part here) ∙ is)))
+      _ (reached .further .ensures) q next
 
 loop-holds : tie.Need-loop-holds Inv-loop μ-loop
 loop-holds c = (c .before .pre .0, refl)
@@ -113,60 +138,64 @@ read-row-requires : tie.Need-read-row-requires Inv-loop μ-loop
 read-row-requires c κs = search needs
 
 same-length : tie.Need-same-length Inv-loop μ-loop
-same-length c = c .before .numbers .given ∙ ap length (c .before .before .before .before .before .before .before .before .before .before .before .loop .inv .1)
+same-length c = c .before .numbers .given ∙ ap length (loop (here (c .before .before)) .loop .inv .1)
 
 returns : tie.Need-returns Inv-loop μ-loop
 returns c =
     let r = c .before .before in
-    let a = r .before .before .before .before .before .before .before .before .before .before .before .args in
-    let numbers = r .before .before .before .before .before .before .before .before .before .loop .inv .1 in
+    let k = here r in
+    let a = start k .args in
+    let numbers = loop k .loop .inv .1 in
     let found = was-read _ _ _ _ _ _ _ _ (r .read-row .ensures) (c .if2 .taken) in
     let f = found .frame in
     let is = sought r f (found .is-good) in
-    let to = r .before .before .before .before .before .further2 .ensures in
-    let start = r .before .before .before .advanced .ensures in
-    let skipped = r .before .before .advanced2 .ensures in
+    let to = taken r .further2 .ensures in
+    let at = passed r .before .advanced .ensures in
+    let skipped = passed r .advanced2 .ensures in
     record {
-      found = (λ i. record { start = stop r .at; length = stop r .size; to = to i }) ∙ ap (placeOf (length (s r)) (a .count)) is;
+      found = (λ i. record { at = stop k .at; length = stop k .length; reach = to i }) ∙ ap (stopOf (length (s k)) (a .count)) is;
       laid = found .stands
-          ∙ (λ i. front (row (to i - a .count) (start i) (skipped i) (long-enough r i) f) (numbers i))
-          ∙ ap (λ (x : Sought). front (rowOf (length (s r)) (a .count) (a .at) (a .skipped) x) (a .numbers .now)) is;
+          ∙ (λ i. front (row (to i - a .count) (at i) (skipped i) (long-enough k i) f) (numbers i))
+          ∙ ap (λ (x : Sought). front (rowOf (length (s k)) (a .count) (a .at) (a .skipped) x) (a .numbers .now)) is;
     }
 
 add-next-stop : tie.Need-add-next-stop Inv-loop μ-loop
-add-next-stop c = omega (arith, there (c .before .before .before .before .before .before .before .before .before))
+add-next-stop c = omega (arith, there (here (c .before .before)))
 
 next-stop-requires : tie.Need-next-stop-requires Inv-loop μ-loop
 next-stop-requires c κs = search needs
 
 loop-less : tie.Need-loop-less Inv-loop μ-loop
-loop-less c = omega (arith, there (c .before .before .before .before .before .before .before .before .before .before), c .next-stop .ensures .walks .ahead)
+loop-less c = omega (arith, there (here (c .before .before .before)), c .next-stop .ensures .walks .ahead)
 
 loop-again : tie.Need-loop-again Inv-loop μ-loop
 loop-again c =
     let r = c .before .before .before in
-    let none = was-none _ _ _ _ _ _ _ _ (r .read-row .ensures) (c .before .if2 .left) (room r) in
-    (further-on r (none .0) _ (c .next-stop .ensures), none .1 ∙ r .before .before .before .before .before .before .before .before .before .loop .inv .1)
+    let none = was-none _ _ _ _ _ _ _ _ (r .read-row .ensures) (c .before .if2 .left) (room (here r)) in
+    (further-on r (none .0) _ (c .next-stop .ensures), none .1 ∙ loop (here r) .loop .inv .1)
 
 lay-waiting-requires : tie.Need-lay-waiting-requires Inv-loop μ-loop
 lay-waiting-requires c κs =
-    let start = c .before .before .before .before .before in
-    (start .pre .1, omega (arith, start .pre .2, ap length (c .before .before .before .loop .inv .1)))
+    let loop = c .before .before .before in
+    let pre = loop .before .before .pre .1 in
+    (pre .there, omega (arith, pre .row, ap length (loop .loop .inv .1)))
 
 same-length-2 : tie.Need-same-length-2 Inv-loop μ-loop
 same-length-2 c = c .numbers2 .given ∙ ap length (c .before .before .before .before .before .loop .inv .1)
 
 returns-2 : tie.Need-returns-2 Inv-loop μ-loop
 returns-2 c =
-    let a = c .before .before .before .before .before .before .before .args in
-    let loop = c .before .before .before .before .before .loop in
+    let ended = c .before .before .before in
+    let loop = ended .before .before in
+    let a = loop .before .before .args in
+    let all = length (a .s .now) in
     let waits = c .before .lay-waiting .ensures in
-    let is = waiting (a .family) (a .s .now) (loop .stop) (loop .inv .0) (c .before .before .before .if1 .left) in
+    let is = waiting (a .family) (a .s .now) (loop .loop .stop) (loop .loop .inv .0) (ended .if1 .left) in
     record {
-      found = waits .found ∙ ap (placeOf (length (a .s .now)) (a .count)) is;
+      found = waits .found ∙ ap (stopOf all (a .count)) is;
       laid = waits .laid
-          ∙ ap (front (rowWithout 5 (length (a .s .now) - a .count))) (loop .inv .1)
-          ∙ ap (λ (x : Sought). front (rowOf (length (a .s .now)) (a .count) (a .at) (a .skipped) x) (a .numbers .now)) is;
+          ∙ ap (front (rowWithout 5 (all - a .count))) (loop .loop .inv .1)
+          ∙ ap (λ (x : Sought). front (rowOf all (a .count) (a .at) (a .skipped) x) (a .numbers .now)) is;
     }
 
 pub walk-spec : {M : Type 1} → statement M
