@@ -2,6 +2,7 @@
 mod fields;
 mod ranges;
 mod report;
+mod told;
 
 pub use fields::of_02;
 pub use fields::of_03;
@@ -11,3 +12,6 @@ pub use ranges::in_range02;
 pub use ranges::in_range03;
 pub use ranges::in_range05;
 pub use report::status_in_range;
+pub use told::Fields;
+pub use told::VALUE_PLACES;
+pub use told::fields_of;
