@@ -1,5 +1,7 @@
 // Sentences 02, 03 and 05 as records, from the bytes behind the sentence's number.
 use crate::fields;
+use records::WIDTHS02;
+use records::WIDTHS03;
 use rules::Frame;
 use rules::NOT_GOOD;
 use rules::Reading;
@@ -9,10 +11,6 @@ use rules::Sentence05;
 ghost use mathlib.Core.Path.{_≡_};
 ghost use Rattle.rules.specs.Sentences.{behindCommas, is02, is03, is05, sentence02, sentence03, sentence05};
 ghost use Rattle.alpha.specs.Held.{held};
-
-const WIDTHS02: [usize; 13] = [5, 3, 4, 4, 4, 3, 3, 3, 1, 1, 2, 1, 5];
-
-const WIDTHS03: [usize; 8] = [3, 3, 3, 3, 3, 4, 3, 1];
 
 // Thirteen decimal fields, and nothing behind them.
 pub(crate) fn read02(r: &[u8]) -> Reading

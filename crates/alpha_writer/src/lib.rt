@@ -1,5 +1,7 @@
 // Writers of the Alpha's sentences, and of the bytes that enable it. Each writes into the lent
 // output's front, or refuses and leaves it as it was.
+use records::WIDTHS02;
+use records::WIDTHS03;
 use rules::NO_RECORD;
 use rules::NO_ROOM;
 use rules::Sentence02;
@@ -49,10 +51,9 @@ fn lay_02(r: Sentence02, out: &mut [u8])
     requires { ⌜ (inRange02 r ≡ true) × (63 ≤ length (now out)) ⌝ }
     ensures { λ _. ⌜ now (out .exit) ≡ laid 0 (bytes02 r) (now (out .entry)) ⌝ }
 {
-    let widths = [5, 3, 4, 4, 4, 3, 3, 3, 1, 1, 2, 1, 5];
     let numbers = records::of_02(r);
     pens::put_bytes(out, 0, b"$APA02");
-    put_decimals(out, 6, &widths, &numbers);
+    put_decimals(out, 6, &WIDTHS02, &numbers);
     put_seal(out, 57);
 }
 
@@ -109,10 +110,9 @@ fn lay_03(r: Sentence03, out: &mut [u8])
     requires { ⌜ (inRange03 r ≡ true) × (49 ≤ length (now out)) ⌝ }
     ensures { λ _. ⌜ now (out .exit) ≡ laid 0 (bytes03 r) (now (out .entry)) ⌝ }
 {
-    let widths = [3, 3, 3, 3, 3, 4, 3, 1];
     let numbers = records::of_03(r);
     pens::put_bytes(out, 0, b"$APA03");
-    put_decimals(out, 6, &widths, &numbers);
+    put_decimals(out, 6, &WIDTHS03, &numbers);
     put_temperature(out, 37, r.temp);
     put_seal(out, 43);
 }

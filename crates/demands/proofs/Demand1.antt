@@ -11,13 +11,10 @@ use native.Mathlib.Omega.{arith}
 use lib.Dec.{leb}
 use lib.IntN.{pos}
 use lib.ListN.{length, drop}
-use Rattle.rules.specs.Answers.{lengthWritten, Says, no, yes, noFamily, noCode, noRecord, noRoom, notGood, kindOf, values, said, saidToWrite, valuesOr8, readOne, isFamily, allowed, bytesOf, notAllowed, Reads, Writes}
+use Rattle.rules.specs.Answers.{aFrame, lengthWritten, Says, no, yes, noFamily, noCode, noRecord, noRoom, notGood, kindOf, values, said, saidToWrite, valuesOr8, readOne, isFamily, allowed, bytesOf, notAllowed, Reads, Writes}
 use Rattle.rules.specs.declared.Frame.{Frame}
-use Rattle.rules.specs.declared.Frame.the-variants.{Ack, Status, Command, Apa02, Apa03, Apa05, Other}
-use Rattle.rules.specs.declared.Status as StatusType
-use Rattle.rules.specs.declared.Sentence02.{Sentence02}
-use Rattle.rules.specs.declared.Sentence03.{Sentence03}
-use Rattle.rules.specs.declared.Sentence05.{Sentence05}
+use Rattle.rules.specs.declared.Kind.{Kind}
+use Rattle.rules.specs.declared.Kind.the-variants.{OfAck, OfStatus, OfCommand, OfSentence}
 use Rattle.rules.specs.declared.Reading.{Reading}
 use Rattle.rules.specs.declared.Written.{Written}
 use Rattle.stream_rules.specs.Lister.{frames, startsOf, fits, tooLong, Lists}
@@ -30,7 +27,7 @@ module _ (family : ℕ) (bs : List ℕ) (answer : Reading) (reads : Reads family
   read-1 e = reads .says ∙ (λ i. cond (not (e i)) (no noFamily) (valuesOr8 (readOne family bs)))
 
   -- its kind and values where the bytes are one good frame of the family,
-  pub read-values : (f : Frame) → IsOne family bs f → said answer ≡ yes (kindOf f) (values f)
+  pub read-values : (f : Frame) → IsOne family bs f → said answer ≡ yes (aFrame (kindOf f)) (values f)
   read-values f one = ap said (reads .answers ∙ exact family bs f .1 one)
 
   -- and else 8.
@@ -41,46 +38,39 @@ module _ (family : ℕ) (bs : List ℕ) (answer : Reading) (reads : Reads family
       ∙ ap valuesOr8 (nothing-else family bs none .1)
 
 -- A writer's number for a code is 2, and for a record 3.
-pub code-2 : (c : ℕ) → (notAllowed (Ack c) ≡ noCode) × (notAllowed (Command c) ≡ noCode)
+pub code-2 : (c : ℕ) → (notAllowed (OfAck c) ≡ noCode) × (notAllowed (OfCommand c) ≡ noCode)
 code-2 c = (refl, refl)
 
-pub record-3 : (s : StatusType.Status) (x : Sentence02) (y : Sentence03) (z : Sentence05)
-    → (notAllowed (Status s) ≡ noRecord) × (notAllowed (Apa02 x) ≡ noRecord) × (notAllowed (Apa03 y) ≡ noRecord) × (notAllowed (Apa05 z) ≡ noRecord)
-record-3 s x y z = (refl, refl, refl, refl)
+pub record-3 : (n : ℕ) → (notAllowed OfStatus ≡ noRecord) × (notAllowed (OfSentence n) ≡ noRecord)
+record-3 n = (refl, refl)
 
 -- what tells a refusal and its number apart: 0 for none
 abbrev number : Says → ℕ
 number (no n) = n
 number (yes k vs) = 0
 
-not-4 : (f : Frame) → notAllowed f ≡ noRoom → ⊥
-not-4 (Ack c) e = omega (arith, e)
-not-4 (Status s) e = omega (arith, e)
-not-4 (Command c) e = omega (arith, e)
-not-4 (Apa02 r) e = omega (arith, e)
-not-4 (Apa03 r) e = omega (arith, e)
-not-4 (Apa05 r) e = omega (arith, e)
-not-4 (Other n) e = omega (arith, e)
+not-4 : (k : Kind) → notAllowed k ≡ noRoom → ⊥
+not-4 (OfAck c) e = omega (arith, e)
+not-4 OfStatus e = omega (arith, e)
+not-4 (OfCommand c) e = omega (arith, e)
+not-4 (OfSentence n) e = omega (arith, e)
 
-not-0 : (f : Frame) → notAllowed f ≡ 0 → ⊥
-not-0 (Ack c) e = omega (arith, e)
-not-0 (Status s) e = omega (arith, e)
-not-0 (Command c) e = omega (arith, e)
-not-0 (Apa02 r) e = omega (arith, e)
-not-0 (Apa03 r) e = omega (arith, e)
-not-0 (Apa05 r) e = omega (arith, e)
-not-0 (Other n) e = omega (arith, e)
+not-0 : (k : Kind) → notAllowed k ≡ 0 → ⊥
+not-0 (OfAck c) e = omega (arith, e)
+not-0 OfStatus e = omega (arith, e)
+not-0 (OfCommand c) e = omega (arith, e)
+not-0 (OfSentence n) e = omega (arith, e)
 
 -- It is given exactly where the code or record is not allowed.
-pub write-no : (f : Frame) (out : List ℕ) (answer : Written) (after : List ℕ) → Writes (allowed f) (notAllowed f) (bytesOf f) out answer after
-    → (saidToWrite answer ≡ no (notAllowed f)) ↔ (allowed f ≡ false)
+pub write-no : (f : Frame) (out : List ℕ) (answer : Written) (after : List ℕ) → Writes (allowed f) (notAllowed (kindOf f)) (bytesOf f) out answer after
+    → (saidToWrite answer ≡ no (notAllowed (kindOf f))) ↔ (allowed f ≡ false)
 write-no f out answer after w = (λ e. back (allowed f) (leb (length (bytesOf f)) (length out)) (sym (w .says) ∙ e), λ e. w .says ∙ rw e)
   where
-    back : (a room : Bool) → cond (not a) (no (notAllowed f)) (cond (not room) (no noRoom) (yes lengthWritten (pos (length (bytesOf f)) ∷ []))) ≡ no (notAllowed f)
+    back : (a room : Bool) → cond (not a) (no (notAllowed (kindOf f))) (cond (not room) (no noRoom) (yes lengthWritten (pos (length (bytesOf f)) ∷ []))) ≡ no (notAllowed (kindOf f))
         → a ≡ false
     back false room e = refl
-    back true false e = absurd (not-4 f (sym (ap number e)))
-    back true true e = absurd (not-0 f (sym (ap number e)))
+    back true false e = absurd (not-4 (kindOf f) (sym (ap number e)))
+    back true true e = absurd (not-0 (kindOf f) (sym (ap number e)))
 
 -- A lister that refuses leaves the list as it was.
 pub list-as-before : (family : ℕ) (capture out : List ℕ) (n : ℕ) (after : List ℕ) → Lists family capture out (Refused n) after → after ≡ out

@@ -9,31 +9,26 @@ use mathlib.Core.Logic.{_↔_, ⊎-elim}
 use native.Mathlib.Omega.{arith}
 use borrow.Author.Tests.{eqb-true, le-leb}
 use lib.Dec.{eqb, leb}
-use lib.ListN.{length, take, drop}
+use lib.ListN.{length, take, drop, getD}
 use lib.Seq.{take-append-seam}
-use Rattle.rules.specs.Codes.{isCode, isAckCode, command, ack}
-use Rattle.rules.specs.Status.{isStatus, statusOf, dataOf}
-use Rattle.rules.specs.Answers.{readOne, noFamily, notGood, noRoom, familyOf, allowed, bytesOf, hasWriter, notAllowed, Writes}
+use Rattle.rules.specs.Answers.{readOne, noFamily, notGood, noRoom, kindOf, familyOf, allowed, bytesOf, hasWriter, notAllowed, Writes}
 use Rattle.rules.specs.Form.{inForm}
 use Rattle.rules.specs.declared.Frame.{Frame}
 use Rattle.rules.specs.declared.Frame.the-variants.{Ack, Status, Command, Apa02, Apa03, Apa05, Other}
+use Rattle.rules.specs.declared.Kind.{Kind}
+use Rattle.rules.specs.declared.Kind.the-variants.{OfAck, OfStatus, OfCommand, OfSentence}
 use Rattle.rules.specs.declared.Reading.{Reading}
 use Rattle.rules.specs.declared.Reading.the-variants.{Good, Refused}
 use Rattle.rules.specs.declared.Written.{Written}
 use Rattle.rules.specs.declared.Written.the-variants.{Length, Refused as NotWritten}
 use Rattle.frame_laws.proofs.Bytes.{answer}
+use Rattle.frame_laws.proofs.Exact.{IsFrame}
 use Rattle.frame_laws.proofs.Spe.{Answer1, Answer3, answer-1, answer-3, ack-exact, status-exact, command-exact, ack-back, command-back, status-back, family1-allowed, family3-allowed, family1-again, family3-again}
-use Rattle.frame_laws.proofs.Alpha.{IsFrame, family2-exact, family2-back, family2-allowed, family2-again}
+use Rattle.frame_laws.proofs.Alpha.{family2-exact, family2-back, family2-allowed, family2-again}
 
 -- These bytes are, as a whole, this frame of this family, by the definitions.
 abbrev pub IsOne : ℕ → List ℕ → Frame → Type 0
-IsOne family bs (Ack c) = (family ≡ 1) × (bs ≡ ack c) × (isAckCode c ≡ true)
-IsOne family bs (Status s) = (family ≡ 1) × (isStatus bs ≡ true) × (s ≡ statusOf (dataOf bs))
-IsOne family bs (Command c) = (family ≡ 3) × (bs ≡ command c) × (isCode c ≡ true)
-IsOne family bs (Apa02 r) = (family ≡ 2) × IsFrame bs (Apa02 r)
-IsOne family bs (Apa03 r) = (family ≡ 2) × IsFrame bs (Apa03 r)
-IsOne family bs (Apa05 r) = (family ≡ 2) × IsFrame bs (Apa05 r)
-IsOne family bs (Other n) = (family ≡ 2) × IsFrame bs (Other n)
+IsOne family bs f = (family ≡ familyOf (kindOf f)) × IsFrame bs f
 
 -- the families, and what is read where there is none
 data Which (family : ℕ) (bs : List ℕ) : Type 0 where
@@ -60,79 +55,62 @@ which family bs =
 
 -- what an answer shows of its frame
 abbrev familyRead : Reading → ℕ
-familyRead (Good f) = familyOf f
+familyRead (Good f) = familyOf (kindOf f)
 familyRead (Refused n) = 0
 
-some-family : (f : Frame) → familyOf f ≡ 0 → ⊥
-some-family (Ack c) e = omega arith
-some-family (Status s) e = omega arith
-some-family (Command c) e = omega arith
-some-family (Apa02 r) e = omega arith
-some-family (Apa03 r) e = omega arith
-some-family (Apa05 r) e = omega arith
-some-family (Other n) e = omega arith
+some-family : (k : Kind) → familyOf k ≡ 0 → ⊥
+some-family (OfAck c) e = omega arith
+some-family OfStatus e = omega arith
+some-family (OfCommand c) e = omega arith
+some-family (OfSentence n) e = omega arith
 
 refused-no-frame : (r : Reading) (n : ℕ) (f : Frame) → r ≡ Refused n → r ≡ Good f → ⊥
-refused-no-frame r n f p q = some-family f (ap familyRead (sym q ∙ p))
+refused-no-frame r n f p q = some-family (kindOf f) (ap familyRead (sym q ∙ p))
 
--- A frame is read of its own family only.
-read-of : (family : ℕ) (bs : List ℕ) (f : Frame) → readOne family bs ≡ Good f → familyOf f ≡ family
-read-of family bs f h = case (which family bs)
+-- What an answer tells of the bytes: a frame, that it is one of this family and that they are it.
+abbrev Tells : List ℕ → ℕ → Reading → Type 0
+Tells bs n (Good f) = (familyOf (kindOf f) ≡ n) × IsFrame bs f
+Tells bs n (Refused m) = Unit
+
+tells-1 : (bs : List ℕ) → Tells bs 1 (readOne 1 bs)
+tells-1 bs = case (answer-1 bs)
   where
-    by-1 : (r : Reading) → Answer1 bs r → r ≡ Good f → familyOf f ≡ 1
-    by-1 r (Answer1.an-ack t e) g = ap familyRead (sym g ∙ e)
-    by-1 r (Answer1.a-report t e) g = ap familyRead (sym g ∙ e)
-    by-1 r (Answer1.neither t u e) g = absurd (refused-no-frame r notGood f e g)
+    case : Answer1 bs (readOne 1 bs) → Tells bs 1 (readOne 1 bs)
+    case (Answer1.an-ack t e) = rw e (refl, ack-exact bs (getD bs 4 0) .0 e)
+    case (Answer1.a-report t e) = rw e (refl, (t, refl))
+    case (Answer1.neither t u e) = rw e tt
 
-    by-2 : (k : Frame) → IsFrame bs k → familyOf k ≡ 2
-    by-2 (Ack c) i = absurd (i .1)
-    by-2 (Status s) i = absurd (i .1)
-    by-2 (Command c) i = absurd (i .1)
-    by-2 (Apa02 r) i = refl
-    by-2 (Apa03 r) i = refl
-    by-2 (Apa05 r) i = refl
-    by-2 (Other n) i = refl
-
-    by-3 : (r : Reading) → Answer3 bs r → r ≡ Good f → familyOf f ≡ 3
-    by-3 r (Answer3.a-command t e) g = ap familyRead (sym g ∙ e)
-    by-3 r (Answer3.none t e) g = absurd (refused-no-frame r notGood f e g)
-
-    at : (n : ℕ) → family ≡ n → readOne n bs ≡ Good f
-    at n e = subst (λ (m : ℕ). readOne m bs ≡ Good f) e h
-
-    case : Which family bs → familyOf f ≡ family
-    case (first e) = by-1 (readOne 1 bs) (answer-1 bs) (at 1 e) ∙ sym e
-    case (second e) = by-2 f (family2-exact bs f .0 (at 2 e)) ∙ sym e
-    case (third e) = by-3 (readOne 3 bs) (answer-3 bs) (at 3 e) ∙ sym e
-    case (none e) = absurd (refused-no-frame (readOne family bs) noFamily f e h)
+tells-3 : (bs : List ℕ) → Tells bs 3 (readOne 3 bs)
+tells-3 bs = case (answer-3 bs)
+  where
+    case : Answer3 bs (readOne 3 bs) → Tells bs 3 (readOne 3 bs)
+    case (Answer3.a-command t e) = rw e (refl, command-exact bs (getD bs 4 0) .0 e)
+    case (Answer3.none t e) = rw e tt
 
 -- 1. A list of bytes is read as a frame exactly when it is that frame by the definitions,
 pub exact : (family : ℕ) (bs : List ℕ) (f : Frame) → (readOne family bs ≡ Good f) ↔ IsOne family bs f
-exact family bs f = (λ h. there f h (sym (read-of family bs f h)), back-again f)
+exact family bs f = (λ h. there h (which family bs), λ i. back-again f (i .0) (i .1))
   where
-    at : (k : Frame) (n : ℕ) → readOne family bs ≡ Good k → family ≡ n → readOne n bs ≡ Good k
-    at k n h e = subst (λ (m : ℕ). readOne m bs ≡ Good k) e h
+    at : (n : ℕ) → readOne family bs ≡ Good f → family ≡ n → readOne n bs ≡ Good f
+    at n h e = subst (λ (m : ℕ). readOne m bs ≡ Good f) e h
 
-    from : (k : Frame) (n : ℕ) → family ≡ n → readOne n bs ≡ Good k → readOne family bs ≡ Good k
-    from k n e h = subst (λ (m : ℕ). readOne m bs ≡ Good k) (sym e) h
+    is-one : (n : ℕ) → family ≡ n → Tells bs n (Good f) → IsOne family bs f
+    is-one n e told = (e ∙ sym (told .0), told .1)
 
-    there : (k : Frame) → readOne family bs ≡ Good k → family ≡ familyOf k → IsOne family bs k
-    there (Ack c) h e = let p = ack-exact bs c .0 (at (Ack c) 1 h e) in (e, p .0, p .1)
-    there (Status s) h e = let p = status-exact bs s .0 (at (Status s) 1 h e) in (e, p .0, p .1)
-    there (Command c) h e = let p = command-exact bs c .0 (at (Command c) 3 h e) in (e, p .0, p .1)
-    there (Apa02 r) h e = (e, family2-exact bs (Apa02 r) .0 (at (Apa02 r) 2 h e))
-    there (Apa03 r) h e = (e, family2-exact bs (Apa03 r) .0 (at (Apa03 r) 2 h e))
-    there (Apa05 r) h e = (e, family2-exact bs (Apa05 r) .0 (at (Apa05 r) 2 h e))
-    there (Other n) h e = (e, family2-exact bs (Other n) .0 (at (Other n) 2 h e))
+    there : readOne family bs ≡ Good f → Which family bs → IsOne family bs f
+    there h (first e) = is-one 1 e (subst (Tells bs 1) (at 1 h e) (tells-1 bs))
+    there h (second e) = is-one 2 e (family2-exact bs f .0 (at 2 h e))
+    there h (third e) = is-one 3 e (subst (Tells bs 3) (at 3 h e) (tells-3 bs))
+    there h (none e) = absurd (refused-no-frame (readOne family bs) noFamily f e h)
 
-    back-again : (k : Frame) → IsOne family bs k → readOne family bs ≡ Good k
-    back-again (Ack c) i = from (Ack c) 1 (i .0) (ack-exact bs c .1 (i .1, i .2))
-    back-again (Status s) i = from (Status s) 1 (i .0) (status-exact bs s .1 (i .1, i .2))
-    back-again (Command c) i = from (Command c) 3 (i .0) (command-exact bs c .1 (i .1, i .2))
-    back-again (Apa02 r) i = from (Apa02 r) 2 (i .0) (family2-exact bs (Apa02 r) .1 (i .1))
-    back-again (Apa03 r) i = from (Apa03 r) 2 (i .0) (family2-exact bs (Apa03 r) .1 (i .1))
-    back-again (Apa05 r) i = from (Apa05 r) 2 (i .0) (family2-exact bs (Apa05 r) .1 (i .1))
-    back-again (Other n) i = from (Other n) 2 (i .0) (family2-exact bs (Other n) .1 (i .1))
+    back-again : (k : Frame) → family ≡ familyOf (kindOf k) → IsFrame bs k → readOne family bs ≡ Good k
+    back-again (Ack c) e i = rw e (ack-exact bs c .1 i)
+    back-again (Status s) e i = rw e (status-exact bs s .1 i)
+    back-again (Command c) e i = rw e (command-exact bs c .1 i)
+    back-again (Apa02 r) e i = rw e (family2-exact bs (Apa02 r) .1 (refl, i))
+    back-again (Apa03 r) e i = rw e (family2-exact bs (Apa03 r) .1 (refl, i))
+    back-again (Apa05 r) e i = rw e (family2-exact bs (Apa05 r) .1 (refl, i))
+    back-again (Other n) e i = rw e (family2-exact bs (Other n) .1 (refl, i))
 
 -- and bytes that are no frame are refused: nothing else is read.
 pub nothing-else : (family : ℕ) (bs : List ℕ) → ((f : Frame) → IsOne family bs f → ⊥) → (n : ℕ) × (readOne family bs ≡ Refused n)
@@ -143,7 +121,7 @@ nothing-else family bs no-frame = case (readOne family bs) refl
     case (Refused n) e = (n, e)
 
 -- 2. Each command, each acknowledgement and each record in range, once written, reads back the same.
-pub reads-back : (f : Frame) → allowed f ≡ true → readOne (familyOf f) (bytesOf f) ≡ Good f
+pub reads-back : (f : Frame) → allowed f ≡ true → readOne (familyOf (kindOf f)) (bytesOf f) ≡ Good f
 unfolding allowed
 reads-back (Ack c) e = ack-back c e
 reads-back (Status s) e = status-back s e
@@ -182,21 +160,21 @@ module _ (family : ℕ) (bs : List ℕ) (f : Frame) (h : readOne family bs ≡ G
 
 -- The same through the statements of the writers, whatever meets them. With a frame that is allowed and room for it, its
 -- length is given, and the reader finds it again at the front of the output;
-module _ (f : Frame) (out : List ℕ) (r : Written) (after : List ℕ) (w : Writes (allowed f) (notAllowed f) (bytesOf f) out r after) where
+module _ (f : Frame) (out : List ℕ) (r : Written) (after : List ℕ) (w : Writes (allowed f) (notAllowed (kindOf f)) (bytesOf f) out r after) where
   pub written-reads-back : allowed f ≡ true → length (bytesOf f) ≤ length out
-      → (r ≡ Length (length (bytesOf f))) × (readOne (familyOf f) (take (length (bytesOf f)) after) ≡ Good f)
+      → (r ≡ Length (length (bytesOf f))) × (readOne (familyOf (kindOf f)) (take (length (bytesOf f)) after) ≡ Good f)
   written-reads-back e k =
       let l = le-leb (length (bytesOf f)) (length out) k in (
-        w .answers ∙ (λ i. cond (e i) (cond (l i) (Length (length (bytesOf f))) (NotWritten noRoom)) (NotWritten (notAllowed f))),
-        ap (λ (bs : List ℕ). readOne (familyOf f) (take (length (bytesOf f)) bs))
+        w .answers ∙ (λ i. cond (e i) (cond (l i) (Length (length (bytesOf f))) (NotWritten noRoom)) (NotWritten (notAllowed (kindOf f)))),
+        ap (λ (bs : List ℕ). readOne (familyOf (kindOf f)) (take (length (bytesOf f)) bs))
             (w .content ∙ (λ i. cond (e i && l i) (bytesOf f ++ drop (length (bytesOf f)) out) out))
-            ∙ ap (readOne (familyOf f)) (take-append-seam (bytesOf f) (drop (length (bytesOf f)) out))
+            ∙ ap (readOne (familyOf (kindOf f))) (take-append-seam (bytesOf f) (drop (length (bytesOf f)) out))
             ∙ reads-back f e,
       )
 
   -- a record out of range is refused with 3 and a bad code with 2, and nothing is written;
-  pub not-allowed-refused : allowed f ≡ false → (r ≡ NotWritten (notAllowed f)) × (after ≡ out)
+  pub not-allowed-refused : allowed f ≡ false → (r ≡ NotWritten (notAllowed (kindOf f))) × (after ≡ out)
   not-allowed-refused e = (
-    w .answers ∙ (λ i. cond (e i) (cond (leb (length (bytesOf f)) (length out)) (Length (length (bytesOf f))) (NotWritten noRoom)) (NotWritten (notAllowed f))),
+    w .answers ∙ (λ i. cond (e i) (cond (leb (length (bytesOf f)) (length out)) (Length (length (bytesOf f))) (NotWritten noRoom)) (NotWritten (notAllowed (kindOf f)))),
     w .content ∙ (λ i. cond (e i && leb (length (bytesOf f)) (length out)) (bytesOf f ++ drop (length (bytesOf f)) out) out),
   )

@@ -12,9 +12,9 @@ use borrow.Author.Tests.{le-leb, lt-leb}
 use lib.ListN.{length, take, drop}
 use lib.Seq.{take-append-seam}
 use Rattle.rules.specs.Codes.{isCode, isAckCode, command, ack}
-use Rattle.rules.specs.Status.{statusInRange, statusBytes}
-use Rattle.rules.specs.Sentences.{inRange02, inRange03, inRange05, bytes02, bytes03, bytes05}
-use Rattle.rules.specs.Answers.{noCode, noRecord, noRoom, allowed, bytesOf, hasWriter, notAllowed, Reads, Writes}
+use Rattle.rules.specs.Status.{statusFrame, statusInRange, statusBytes}
+use Rattle.rules.specs.Sentences.{sentenceFrame, inRange02, inRange03, inRange05, bytes02, bytes03, bytes05}
+use Rattle.rules.specs.Answers.{noCode, noRecord, noRoom, kindOf, allowed, bytesOf, hasWriter, notAllowed, Reads, Writes}
 use Rattle.rules.specs.Form.{inForm}
 use Rattle.rules.specs.declared.Frame.{Frame}
 use Rattle.rules.specs.declared.Frame.the-variants.{Ack, Status, Command, Apa02, Apa03, Apa05, Other}
@@ -29,7 +29,7 @@ use Rattle.demands.proofs.Demand2.{read-allowed, writes-again}
 
 -- what the theorems of demand 2 speak of: a writer of a frame
 abbrev pub WritesFrame : Frame → List ℕ → Written → List ℕ → Type 0
-WritesFrame f out answer after = Writes (allowed f) (notAllowed f) (bytesOf f) out answer after
+WritesFrame f out answer after = Writes (allowed f) (notAllowed (kindOf f)) (bytesOf f) out answer after
 
 module _ (out : List ℕ) (answer : Written) (after : List ℕ) where
   pub write-ack : (c : ℕ) → Writes (isAckCode c) noCode (ack c) out answer after → WritesFrame (Ack c) out answer after
@@ -79,12 +79,13 @@ pub no-room-refused : (f : Frame) (out : List ℕ) (answer : Written) (after : L
     → length out < length (bytesOf f) → (answer ≡ NotWritten noRoom) × (after ≡ out)
 no-room-refused f out answer after w e k =
     let l = lt-leb (length (bytesOf f)) (length out) k in (
-      w .answers ∙ (λ i. cond (e i) (cond (l i) (Length (length (bytesOf f))) (NotWritten noRoom)) (NotWritten (notAllowed f))),
+      w .answers ∙ (λ i. cond (e i) (cond (l i) (Length (length (bytesOf f))) (NotWritten noRoom)) (NotWritten (notAllowed (kindOf f)))),
       w .content ∙ (λ i. cond (e i && l i) (bytesOf f ++ drop (length (bytesOf f)) out) out),
     )
 
 -- Only a sentence of another number has no writer.
 pub only-other : (f : Frame) → hasWriter f ≡ false → (n : ℕ) × (f ≡ Other n)
+unfolding bytesOf statusFrame sentenceFrame
 only-other (Ack c) e = let z : _≡_ {A = ℕ} 0 1 = cc in absurd (omega arith)
 only-other (Status s) e = let z : _≡_ {A = ℕ} 0 1 = cc in absurd (omega arith)
 only-other (Command c) e = let z : _≡_ {A = ℕ} 0 1 = cc in absurd (omega arith)

@@ -5,7 +5,8 @@ use mathlib.Core.Path.{_≡_}
 use mathlib.Core.List.{List, [], _∷_, map}
 use lib.IntN.{ℤ, pos}
 use Rattle.rules.specs.Bytes.{ascii}
-use Rattle.rules.specs.Answers.{readOne, said, no, yes, ofAck, ofStatus, ofCommand, ofSentence, moreWanted, nowDone}
+use Rattle.rules.specs.Answers.{readOne, said, no, yes, aFrame, moreWanted, nowDone}
+use Rattle.rules.specs.declared.Kind.the-variants.{OfAck, OfStatus, OfCommand, OfSentence}
 use Rattle.stream_rules.specs.Streams.{fed, saidToFeed}
 use Rattle.demands.specs.Bench.{report5, sentence7, first4, on4, on4-again, closed4-again}
 
@@ -16,19 +17,19 @@ pub record SaidSheet : Type 0 where
   -- Case 4: more is wanted, 16 bytes taken. Then a frame: 59 taken, start 4, skipped 4, 6 bytes long; and one with none
   -- taken, start 10, skipped 0. And done in the end.
   pub case4 : saidToFeed (first4 .answer) ≡ yes moreWanted (numbers (16 ∷ []))
-  pub case4-on : saidToFeed (on4 .answer) ≡ yes (ofAck 0x0D) (numbers (59 ∷ 4 ∷ 4 ∷ 6 ∷ []))
-  pub case4-on-again : saidToFeed (on4-again .answer) ≡ yes (ofAck 0x09) (numbers (0 ∷ 10 ∷ 0 ∷ 6 ∷ []))
+  pub case4-on : saidToFeed (on4 .answer) ≡ yes (aFrame (OfAck 0x0D)) (numbers (59 ∷ 4 ∷ 4 ∷ 6 ∷ []))
+  pub case4-on-again : saidToFeed (on4-again .answer) ≡ yes (aFrame (OfAck 0x09)) (numbers (0 ∷ 10 ∷ 0 ∷ 6 ∷ []))
   pub case4-done : saidToFeed (fed (closed4-again .reader) [] .answer) ≡ yes nowDone (numbers (0 ∷ []))
   -- Case 5: ID 20, S, R, x, input 2, band 3, antenna 2 t, antenna 0, M, no power, and 31, 29 and 30 degrees, N, N.
   pub case5 : said (readOne 1 (report5 0x6A 0x0D))
-      ≡ yes ofStatus (numbers (20 ∷ 83 ∷ 82 ∷ 120 ∷ 2 ∷ 3 ∷ 2 ∷ 116 ∷ 0 ∷ 77 ∷ 0 ∷ 0 ∷ 0 ∷ 0 ∷ 0 ∷ 31 ∷ 29 ∷ 30 ∷ 78 ∷ 78 ∷ []))
+      ≡ yes (aFrame OfStatus) (numbers (20 ∷ 83 ∷ 82 ∷ 120 ∷ 2 ∷ 3 ∷ 2 ∷ 116 ∷ 0 ∷ 77 ∷ 0 ∷ 0 ∷ 0 ∷ 0 ∷ 0 ∷ 31 ∷ 29 ∷ 30 ∷ 78 ∷ 78 ∷ []))
   pub case6 : said (readOne 1 (report5 0x0D 0x6A)) ≡ no 8
-  pub case7 : said (readOne 2 sentence7) ≡ yes (ofSentence 5) (numbers (1 ∷ 1 ∷ 1 ∷ 8 ∷ 1 ∷ 11 ∷ 3 ∷ 4 ∷ 0 ∷ 42 ∷ 1 ∷ []))
-  pub case10 : said (readOne 3 (0x55 ∷ 0x55 ∷ 0x55 ∷ 0x01 ∷ 0x90 ∷ 0x90 ∷ [])) ≡ yes (ofCommand 0x90) []
+  pub case7 : said (readOne 2 sentence7) ≡ yes (aFrame (OfSentence 5)) (numbers (1 ∷ 1 ∷ 1 ∷ 8 ∷ 1 ∷ 11 ∷ 3 ∷ 4 ∷ 0 ∷ 42 ∷ 1 ∷ []))
+  pub case10 : said (readOne 3 (0x55 ∷ 0x55 ∷ 0x55 ∷ 0x01 ∷ 0x90 ∷ 0x90 ∷ [])) ≡ yes (aFrame (OfCommand 0x90)) []
   pub no-family : said (readOne 4 []) ≡ no 1
   -- 001's sentences 02, 03 and 11.
   pub printed-02 : said (readOne 2 (ascii "$APA02,15017,010,2590,3169,0768,230,096,057,1,6,01,0,15721*D83F"))
-      ≡ yes (ofSentence 2) (numbers (15017 ∷ 10 ∷ 2590 ∷ 3169 ∷ 768 ∷ 230 ∷ 96 ∷ 57 ∷ 1 ∷ 6 ∷ 1 ∷ 0 ∷ 15721 ∷ []))
+      ≡ yes (aFrame (OfSentence 2)) (numbers (15017 ∷ 10 ∷ 2590 ∷ 3169 ∷ 768 ∷ 230 ∷ 96 ∷ 57 ∷ 1 ∷ 6 ∷ 1 ∷ 0 ∷ 15721 ∷ []))
   pub printed-03 : said (readOne 2 (ascii "$APA03,499,121,240,121,389,2370,000,5,+028.0*9D7D"))
-      ≡ yes (ofSentence 3) (numbers (499 ∷ 121 ∷ 240 ∷ 121 ∷ 389 ∷ 2370 ∷ 0 ∷ 5 ∷ 280 ∷ []))
-  pub printed-11 : said (readOne 2 (ascii "$APA11,02,0000,00EA,0068,0068*72B4")) ≡ yes (ofSentence 11) []
+      ≡ yes (aFrame (OfSentence 3)) (numbers (499 ∷ 121 ∷ 240 ∷ 121 ∷ 389 ∷ 2370 ∷ 0 ∷ 5 ∷ 280 ∷ []))
+  pub printed-11 : said (readOne 2 (ascii "$APA11,02,0000,00EA,0068,0068*72B4")) ≡ yes (aFrame (OfSentence 11)) []

@@ -12,33 +12,20 @@ use lib.Dec.{eqb, lit<}
 use borrow.Author.Tests.{eqb-true, eqb-false, ne-eqb}
 use Rattle.rules.specs.Numbers.{withZeros}
 use Rattle.rules.specs.Sentences.{isSentence, payloadOf, numberOf, textsOf, is02, is03, is05, sentence02, sentence03, sentence05, inRange02, inRange03, inRange05, texts02, texts03, texts05, sentenceFrame}
-use Rattle.rules.specs.Answers.{readTexts, readFamily2, readOne, notGood, familyOf, allowed, bytesOf, hasWriter}
+use Rattle.rules.specs.Answers.{readTexts, readFamily2, readOne, notGood, kindOf, familyOf, allowed, bytesOf, hasWriter}
 use Rattle.rules.specs.Form.{inForm}
 use Rattle.rules.specs.declared.Frame.{Frame}
 use Rattle.rules.specs.declared.Frame.the-variants.{Ack, Status, Command, Apa02, Apa03, Apa05, Other}
 use Rattle.rules.specs.declared.Reading.{Reading}
 use Rattle.rules.specs.declared.Reading.the-variants.{Good, Refused}
+use Rattle.frame_laws.proofs.Exact.{IsNumbered, textsIn, IsFrame}
 use Rattle.frame_laws.proofs.Sentences.{payload, payload-good, payload-texts, payload-number, payload-parts, payload-back, frame-sentence, sentence-payload, sentence-frame}
 use Rattle.frame_laws.proofs.SentenceRecords.{Kind, kind02, kind03, kind05}
 
--- The texts ts of a sentence numbered n say this frame: 02, 03 or 05 where they keep its field rules, and its record
--- holds their values; any other number says itself. No sentence says a frame of another family.
-abbrev pub Says : ℕ → List (List ℕ) → Frame → Type 0
-Says n ts (Ack c) = ⊥
-Says n ts (Status s) = ⊥
-Says n ts (Command c) = ⊥
-Says n ts (Apa02 r) = (n ≡ 2) × (is02 ts ≡ true) × (r ≡ sentence02 ts)
-Says n ts (Apa03 r) = (n ≡ 3) × (is03 ts ≡ true) × (r ≡ sentence03 ts)
-Says n ts (Apa05 r) = (n ≡ 5) × (is05 ts ≡ true) × (r ≡ sentence05 ts)
-Says n ts (Other m) = (n ≢ 2) × (n ≢ 3) × (n ≢ 5) × (m ≡ n)
-
--- The bytes are a sentence that says this frame.
-abbrev pub IsFrame : List ℕ → Frame → Type 0
-IsFrame bs f = (isSentence bs ≡ true) × Says (numberOf (payloadOf bs)) (textsOf (payloadOf bs)) f
-
--- What an answer tells of the bytes: a frame, that they are it; a refusal, that its number is 8.
+-- What an answer of family 2 tells of the bytes: a frame, that it is one of this family and that they are it; a refusal,
+-- that its number is 8.
 abbrev Tells : List ℕ → Reading → Type 0
-Tells bs (Good f) = IsFrame bs f
+Tells bs (Good f) = (familyOf (kindOf f) ≡ 2) × IsFrame bs f
 Tells bs (Refused m) = m ≡ notGood
 
 -- what each of two answers tells where the test gives it, the chosen one tells
@@ -53,43 +40,62 @@ tells bs =
     let ts = textsOf (payloadOf bs) in
     choice (Tells bs) (isSentence bs) _ _
     (λ s. choice (Tells bs) (eqb n 2) _ _
-    (λ e2. choice (Tells bs) (is02 ts) _ _ (λ good. (s, (eqb-true n 2 e2, good, refl))) (λ bad. refl))
+    (λ e2. choice (Tells bs) (is02 ts) _ _ (λ good. (refl, ((s, eqb-true n 2 e2), good, refl))) (λ bad. refl))
     (λ n2. choice (Tells bs) (eqb n 3) _ _
-    (λ e3. choice (Tells bs) (is03 ts) _ _ (λ good. (s, (eqb-true n 3 e3, good, refl))) (λ bad. refl))
+    (λ e3. choice (Tells bs) (is03 ts) _ _ (λ good. (refl, ((s, eqb-true n 3 e3), good, refl))) (λ bad. refl))
     (λ n3. choice (Tells bs) (eqb n 5) _ _
-    (λ e5. choice (Tells bs) (is05 ts) _ _ (λ good. (s, (eqb-true n 5 e5, good, refl))) (λ bad. refl))
-    (λ n5. (s, (eqb-false n 2 n2, eqb-false n 3 n3, eqb-false n 5 n5, refl))))))
+    (λ e5. choice (Tells bs) (is05 ts) _ _ (λ good. (refl, ((s, eqb-true n 5 e5), good, refl))) (λ bad. refl))
+    (λ n5. (refl, ((s, refl), eqb-false n 2 n2, eqb-false n 3 n3, eqb-false n 5 n5))))))
     (λ no-sentence. refl)
 
-says : (n : ℕ) (ts : List (List ℕ)) (f : Frame) → Says n ts f → readTexts n ts ≡ Good f
-unfolding readTexts
-says n ts (Ack c) h = absurd h
-says n ts (Status s) h = absurd h
-says n ts (Command c) h = absurd h
-says n ts (Apa02 r) h = rw (h .0, h .1, h .2)
-says n ts (Apa03 r) h = rw (h .0, h .1, h .2)
-says n ts (Apa05 r) h = rw (h .0, h .1, h .2)
-says n ts (Other m) h = rw (ne-eqb n 2 (h .0), ne-eqb n 3 (h .1), ne-eqb n 5 (h .2), h .3)
+-- texts that keep the field rules are read as their record, and those of another number as that number
+module _ (ts : List (List ℕ)) where
+  reads02 : is02 ts ≡ true → readTexts 2 ts ≡ Good (Apa02 (sentence02 ts))
+  unfolding readTexts
+  reads02 good = rw good
+
+  reads03 : is03 ts ≡ true → readTexts 3 ts ≡ Good (Apa03 (sentence03 ts))
+  unfolding readTexts
+  reads03 good = rw good
+
+  reads05 : is05 ts ≡ true → readTexts 5 ts ≡ Good (Apa05 (sentence05 ts))
+  unfolding readTexts
+  reads05 good = rw good
+
+  readsOther : (n : ℕ) → (n ≢ 2) → (n ≢ 3) → (n ≢ 5) → readTexts n ts ≡ Good (Other n)
+  unfolding readTexts
+  readsOther n p q r = rw (ne-eqb n 2 p, ne-eqb n 3 q, ne-eqb n 5 r)
 
 reads : (bs : List ℕ) → isSentence bs ≡ true → readOne 2 bs ≡ readTexts (numberOf (payloadOf bs)) (textsOf (payloadOf bs))
 unfolding readOne readFamily2
 reads bs good = ap (λ b. cond b (readTexts (numberOf (payloadOf bs)) (textsOf (payloadOf bs))) (Refused notGood)) good
 
--- Bytes are read as a frame exactly where they are a sentence that says it;
-pub family2-exact : (bs : List ℕ) (f : Frame) → (readOne 2 bs ≡ Good f) ↔ IsFrame bs f
-family2-exact bs f =
-    (λ e. subst (Tells bs) e (tells bs), λ h. reads bs (h .0) ∙ says (numberOf (payloadOf bs)) (textsOf (payloadOf bs)) f (h .1))
+numbered : (bs : List ℕ) (n : ℕ) → IsNumbered bs n → readOne 2 bs ≡ readTexts n (textsIn bs)
+numbered bs n h = reads bs (h .0) ∙ ap (λ m. readTexts m (textsIn bs)) (h .1)
+
+-- Bytes are read as a frame exactly where it is one of this family and they are it;
+pub family2-exact : (bs : List ℕ) (f : Frame) → (readOne 2 bs ≡ Good f) ↔ ((familyOf (kindOf f) ≡ 2) × IsFrame bs f)
+family2-exact bs f = (λ e. subst (Tells bs) e (tells bs), λ h. back f (h .0) (h .1))
+  where
+    back : (k : Frame) → familyOf (kindOf k) ≡ 2 → IsFrame bs k → readOne 2 bs ≡ Good k
+    back (Ack c) alpha h = absurd (omega arith)
+    back (Status s) alpha h = absurd (omega arith)
+    back (Command c) alpha h = absurd (omega arith)
+    back (Apa02 r) alpha h = numbered bs 2 (h .0) ∙ rw (h .2) (reads02 (textsIn bs) (h .1))
+    back (Apa03 r) alpha h = numbered bs 3 (h .0) ∙ rw (h .2) (reads03 (textsIn bs) (h .1))
+    back (Apa05 r) alpha h = numbered bs 5 (h .0) ∙ rw (h .2) (reads05 (textsIn bs) (h .1))
+    back (Other n) alpha h = numbered bs n (h .0) ∙ readsOther (textsIn bs) n (h .1) (h .2) (h .3)
 
 -- where they are no such sentence, and only there, they are refused, with number 8.
-pub family2-refused : (bs : List ℕ) (n : ℕ) → (readOne 2 bs ≡ Refused n) ↔ (((f : Frame) → IsFrame bs f → ⊥) × (n ≡ notGood))
+pub family2-refused : (bs : List ℕ) (n : ℕ) → (readOne 2 bs ≡ Refused n) ↔ (((f : Frame) → familyOf (kindOf f) ≡ 2 → IsFrame bs f → ⊥) × (n ≡ notGood))
 family2-refused bs n =
-    (λ e. (λ f h. never f (family2-exact bs f .1 h) e, subst (Tells bs) e (tells bs)), λ h. by-answer h (readOne 2 bs) refl (tells bs))
+    (λ e. (λ f alpha h. never f (family2-exact bs f .1 (alpha, h)) e, subst (Tells bs) e (tells bs)), λ h. by-answer h (readOne 2 bs) refl (tells bs))
   where
     never : (f : Frame) → readOne 2 bs ≡ Good f → readOne 2 bs ≡ Refused n → ⊥
     never f g r = let z : _≡_ {A = ℕ} 0 1 = cc in omega arith
 
-    by-answer : ((f : Frame) → IsFrame bs f → ⊥) × (n ≡ notGood) → (a : Reading) → readOne 2 bs ≡ a → Tells bs a → readOne 2 bs ≡ Refused n
-    by-answer h (Good f) e t = absurd (h .0 f t)
+    by-answer : ((f : Frame) → familyOf (kindOf f) ≡ 2 → IsFrame bs f → ⊥) × (n ≡ notGood) → (a : Reading) → readOne 2 bs ≡ a → Tells bs a → readOne 2 bs ≡ Refused n
+    by-answer h (Good f) e t = absurd (h .0 f (t .0) (t .1))
     by-answer h (Refused m) e t = e ∙ ap Refused (t ∙ sym (h .1))
 
 -- The argument for a kind of record and its number. What is written of a record in range is a sentence of that number
@@ -120,49 +126,49 @@ module _ {R : Type 0} {is : List (List ℕ) → Bool} {read : List (List ℕ) �
       )
 
 -- A record in range, once written, reads back the same. (An "other" sentence has no writer, and is never allowed.)
-pub family2-back : (f : Frame) → familyOf f ≡ 2 → allowed f ≡ true → readOne (familyOf f) (bytesOf f) ≡ Good f
+pub family2-back : (f : Frame) → familyOf (kindOf f) ≡ 2 → allowed f ≡ true → readOne (familyOf (kindOf f)) (bytesOf f) ≡ Good f
 unfolding allowed bytesOf withZeros
 family2-back (Ack c) alpha fits = absurd (omega arith)
 family2-back (Status s) alpha fits = absurd (omega arith)
 family2-back (Command c) alpha fits = absurd (omega arith)
 family2-back (Apa02 r) alpha fits =
-    reads-written kind02 2 (lit< tt) r fits ∙ says 2 (texts02 r) (Apa02 r) (refl, kind02 .good r fits, sym (kind02 .back r fits))
+    reads-written kind02 2 (lit< tt) r fits ∙ reads02 (texts02 r) (kind02 .good r fits) ∙ ap (λ x. Good (Apa02 x)) (kind02 .back r fits)
 family2-back (Apa03 r) alpha fits =
-    reads-written kind03 3 (lit< tt) r fits ∙ says 3 (texts03 r) (Apa03 r) (refl, kind03 .good r fits, sym (kind03 .back r fits))
+    reads-written kind03 3 (lit< tt) r fits ∙ reads03 (texts03 r) (kind03 .good r fits) ∙ ap (λ x. Good (Apa03 x)) (kind03 .back r fits)
 family2-back (Apa05 r) alpha fits =
-    reads-written kind05 5 (lit< tt) r fits ∙ says 5 (texts05 r) (Apa05 r) (refl, kind05 .good r fits, sym (kind05 .back r fits))
+    reads-written kind05 5 (lit< tt) r fits ∙ reads05 (texts05 r) (kind05 .good r fits) ∙ ap (λ x. Good (Apa05 x)) (kind05 .back r fits)
 family2-back (Other n) alpha fits = absurd (false≢true fits)
 
 -- What was read and has a writer may be written,
 pub family2-allowed : (bs : List ℕ) (f : Frame) → readOne 2 bs ≡ Good f → hasWriter f ≡ true → allowed f ≡ true
-unfolding allowed
-family2-allowed bs (Ack c) e writer = absurd (family2-exact bs (Ack c) .0 e .1)
-family2-allowed bs (Status s) e writer = absurd (family2-exact bs (Status s) .0 e .1)
-family2-allowed bs (Command c) e writer = absurd (family2-exact bs (Command c) .0 e .1)
+unfolding allowed bytesOf
+family2-allowed bs (Ack c) e writer = absurd (omega (arith, family2-exact bs (Ack c) .0 e .0))
+family2-allowed bs (Status s) e writer = absurd (omega (arith, family2-exact bs (Status s) .0 e .0))
+family2-allowed bs (Command c) e writer = absurd (omega (arith, family2-exact bs (Command c) .0 e .0))
 family2-allowed bs (Apa02 r) e writer =
     let h = family2-exact bs (Apa02 r) .0 e .1 in
-    ap inRange02 (h .2) ∙ kind02 .range (textsOf (payloadOf bs)) (h .1)
+    ap inRange02 (h .2) ∙ kind02 .range (textsIn bs) (h .1)
 family2-allowed bs (Apa03 r) e writer =
     let h = family2-exact bs (Apa03 r) .0 e .1 in
-    ap inRange03 (h .2) ∙ kind03 .range (textsOf (payloadOf bs)) (h .1)
+    ap inRange03 (h .2) ∙ kind03 .range (textsIn bs) (h .1)
 family2-allowed bs (Apa05 r) e writer =
     let h = family2-exact bs (Apa05 r) .0 e .1 in
-    ap inRange05 (h .2) ∙ kind05 .range (textsOf (payloadOf bs)) (h .1)
+    ap inRange05 (h .2) ∙ kind05 .range (textsIn bs) (h .1)
 family2-allowed bs (Other n) e writer = absurd (false≢true writer)
 
 -- and gives its own bytes if, and only if, it stood in the writer's form.
 pub family2-again : (bs : List ℕ) (f : Frame) → readOne 2 bs ≡ Good f → hasWriter f ≡ true → (bytesOf f ≡ bs) ↔ (inForm f bs ≡ true)
 unfolding bytesOf inForm withZeros
-family2-again bs (Ack c) e writer = absurd (family2-exact bs (Ack c) .0 e .1)
-family2-again bs (Status s) e writer = absurd (family2-exact bs (Status s) .0 e .1)
-family2-again bs (Command c) e writer = absurd (family2-exact bs (Command c) .0 e .1)
+family2-again bs (Ack c) e writer = absurd (omega (arith, family2-exact bs (Ack c) .0 e .0))
+family2-again bs (Status s) e writer = absurd (omega (arith, family2-exact bs (Status s) .0 e .0))
+family2-again bs (Command c) e writer = absurd (omega (arith, family2-exact bs (Command c) .0 e .0))
 family2-again bs (Apa02 r) e writer =
-    let h = family2-exact bs (Apa02 r) .0 e in
-    rw (h .1 .2) (written-again kind02 2 (lit< tt) bs (h .0) (h .1 .0) (h .1 .1))
+    let h = family2-exact bs (Apa02 r) .0 e .1 in
+    rw (h .2) (written-again kind02 2 (lit< tt) bs (h .0 .0) (h .0 .1) (h .1))
 family2-again bs (Apa03 r) e writer =
-    let h = family2-exact bs (Apa03 r) .0 e in
-    rw (h .1 .2) (written-again kind03 3 (lit< tt) bs (h .0) (h .1 .0) (h .1 .1))
+    let h = family2-exact bs (Apa03 r) .0 e .1 in
+    rw (h .2) (written-again kind03 3 (lit< tt) bs (h .0 .0) (h .0 .1) (h .1))
 family2-again bs (Apa05 r) e writer =
-    let h = family2-exact bs (Apa05 r) .0 e in
-    rw (h .1 .2) (written-again kind05 5 (lit< tt) bs (h .0) (h .1 .0) (h .1 .1))
+    let h = family2-exact bs (Apa05 r) .0 e .1 in
+    rw (h .2) (written-again kind05 5 (lit< tt) bs (h .0 .0) (h .0 .1) (h .1))
 family2-again bs (Other n) e writer = absurd (false≢true writer)

@@ -10,7 +10,7 @@ use native.Mathlib.Omega.{arith}
 use lib.ListN.{getD}
 use Rattle.rules.specs.Codes.{isCode, isAckCode, command, isCommand, ack, isAck}
 use Rattle.rules.specs.Status.{joined, statusFrame, statusTexts, dataOf, statusOf, statusBytes, isStatus}
-use Rattle.rules.specs.Answers.{readOne, readFamily1, readFamily3, notGood, familyOf, allowed, bytesOf}
+use Rattle.rules.specs.Answers.{readOne, readFamily1, readFamily3, notGood, allowed, bytesOf}
 use Rattle.rules.specs.Form.{inForm}
 use Rattle.rules.specs.declared.Status as StatusType
 use Rattle.rules.specs.declared.Frame.{Frame}
@@ -119,15 +119,15 @@ family1-refused bs n = (exact (readOne 1 bs) (answer-1 bs), λ h. rw (h .0, h .1
     exact r (neither h g q) e = (h, g, cc)
 
 -- An acknowledgement, a command or a report in range, once written, reads back the same.
-pub ack-back : (c : ℕ) → allowed (Ack c) ≡ true → readOne (familyOf (Ack c)) (bytesOf (Ack c)) ≡ Good (Ack c)
+pub ack-back : (c : ℕ) → allowed (Ack c) ≡ true → readOne 1 (bytesOf (Ack c)) ≡ Good (Ack c)
 unfolding allowed bytesOf
 ack-back c e = ack-exact (ack c) c .1 (refl, e)
 
-pub command-back : (c : ℕ) → allowed (Command c) ≡ true → readOne (familyOf (Command c)) (bytesOf (Command c)) ≡ Good (Command c)
+pub command-back : (c : ℕ) → allowed (Command c) ≡ true → readOne 3 (bytesOf (Command c)) ≡ Good (Command c)
 unfolding allowed bytesOf
 command-back c e = command-exact (command c) c .1 (refl, e)
 
-pub status-back : (s : StatusType.Status) → allowed (Status s) ≡ true → readOne (familyOf (Status s)) (bytesOf (Status s)) ≡ Good (Status s)
+pub status-back : (s : StatusType.Status) → allowed (Status s) ≡ true → readOne 1 (bytesOf (Status s)) ≡ Good (Status s)
 unfolding allowed bytesOf
 status-back s e =
     status-exact (statusBytes s) s .1

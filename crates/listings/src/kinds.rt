@@ -2,24 +2,21 @@
 // has no room is left out.
 use lines::hex_byte;
 use lines::text;
-use rules::Frame;
+use rules::Kind;
 ghost use mathlib.Core.List.{[], _∷_};
 ghost use Rattle.rules.specs.Numbers.{hexDigits};
 ghost use Rattle.lines.specs.Lines.{Types};
 ghost use Rattle.listings.specs.Kinds.{sentenceTexts, kindTexts};
 
 // What kind of frame it is: `ack XX`, `status`, `command XX` or `APAnn`.
-pub fn kind(line: &mut [u8], at: usize, frame: Frame) -> usize
-    ensures { λ r. ⌜ Types (kindTexts frame) (now (line .entry)) at (now (line .exit)) r ⌝ }
+pub fn kind(line: &mut [u8], at: usize, of: Kind) -> usize
+    ensures { λ r. ⌜ Types (kindTexts of) (now (line .entry)) at (now (line .exit)) r ⌝ }
 {
-    match frame {
-        Frame::Ack(code) => coded(line, at, b"ack ", code),
-        Frame::Status(_) => text(line, at, b"status"),
-        Frame::Command(code) => coded(line, at, b"command ", code),
-        Frame::Apa02(_) => sentence(line, at, 2),
-        Frame::Apa03(_) => sentence(line, at, 3),
-        Frame::Apa05(_) => sentence(line, at, 5),
-        Frame::Other(n) => sentence(line, at, n),
+    match of {
+        Kind::OfAck(code) => coded(line, at, b"ack ", code),
+        Kind::OfStatus => text(line, at, b"status"),
+        Kind::OfCommand(code) => coded(line, at, b"command ", code),
+        Kind::OfSentence(n) => sentence(line, at, n),
     }
 }
 

@@ -3,6 +3,7 @@
 use crate::kinds;
 use captures::list_frames;
 use captures::next_frame;
+use records::fields_of;
 use rules::Reading;
 use std::num::wrapping_add_usize;
 use std::num::wrapping_sub_usize;
@@ -65,7 +66,11 @@ pub fn part_kind(line: &mut [u8], at: usize, family: u8, frame: &[u8]) -> usize
     ensures { λ r. ⌜ Types (partTexts family (now (frame .entry))) (now (line .entry)) at (now (line .exit)) r ⌝ }
 {
     match frames::read_frame(family, frame) {
-        Reading::Good(f) => kinds::kind(line, at, f),
+        Reading::Good(f) => {
+            let told = fields_of(f);
+            let kind = told.kind;
+            kinds::kind(line, at, kind)
+        }
         Reading::Refused(n) => lines::refused(line, at, n),
     }
 }

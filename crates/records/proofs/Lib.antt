@@ -1,2 +1,3 @@
--- Laws that the ranges share.
+-- Laws that the ranges share, and laws of values in their places.
 pub mod Tests
+pub mod Places

@@ -1,13 +1,20 @@
-// The records' fields as numbers, in document 01's order, and whether a record holds only what its fields can carry.
+// The records' fields as numbers, in document 01's order, what is told of a frame, and whether a record holds only what its
+// fields can carry.
 mod fields;
 mod ranges;
 mod report;
+mod told;
 
 pub use fields::of_02;
 pub use fields::of_03;
 pub use fields::of_05;
 pub use fields::of_status;
+pub use ranges::WIDTHS02;
+pub use ranges::WIDTHS03;
 pub use ranges::in_range02;
 pub use ranges::in_range03;
 pub use ranges::in_range05;
 pub use report::status_in_range;
+pub use told::Fields;
+pub use told::VALUE_PLACES;
+pub use told::fields_of;

@@ -6,6 +6,11 @@ use rules::Sentence05;
 ghost use mathlib.Core.Path.{_≡_};
 ghost use Rattle.rules.specs.Sentences.{inRange02, inRange03, inRange05};
 
+// How many digits the decimal fields of sentences 02 and 03 have at most. The writer uses all of them.
+pub const WIDTHS02: [usize; 13] = [5, 3, 4, 4, 4, 3, 3, 3, 1, 1, 2, 1, 5];
+
+pub const WIDTHS03: [usize; 8] = [3, 3, 3, 3, 3, 4, 3, 1];
+
 // Each number fits its width; grid voltage is at most 255, band 1 to 9, key 0 or 1.
 pub fn in_range02(r: Sentence02) -> bool
     ensures { λ ok. ⌜ ok ≡ inRange02 r ⌝ }

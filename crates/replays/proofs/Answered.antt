@@ -11,7 +11,7 @@ use borrow.Author.Tests.{le-leb}
 use lib.ListN.{length}
 use lib.Seq.{take-append-seam}
 use Rattle.rules.specs.Bytes.{ascii, part}
-use Rattle.rules.specs.Answers.{Writes, allowed, notAllowed, bytesOf}
+use Rattle.rules.specs.Answers.{Writes, kindOf, allowed, notAllowed, bytesOf}
 use Rattle.rules.specs.declared.Frame.{Frame}
 use Rattle.rules.specs.declared.Frame.the-variants.{Ack, Status, Command, Apa02, Apa03, Apa05, Other}
 use Rattle.rules.specs.declared.Written.{Written}
@@ -32,7 +32,7 @@ longest (Apa03 r) = omega (arith, length03 r)
 longest (Apa05 r) = omega (arith, length05 r)
 longest (Other n) = omega arith
 
-module _ (f : Frame) {out after : List ℕ} {given : Written} (w : Writes (allowed f) (notAllowed f) (bytesOf f) out given after) (room : length (bytesOf f) ≤ length out) where
+module _ (f : Frame) {out after : List ℕ} {given : Written} (w : Writes (allowed f) (notAllowed (kindOf f)) (bytesOf f) out given after) (room : length (bytesOf f) ≤ length out) where
   pub bytes-shown : (n : ℕ) → given ≡ Length n → hexTexts (part 0 n after) ≡ writtenTexts f
   unfolding writtenTexts
   bytes-shown n e = ⊎-elim yes no (answer (allowed f))

@@ -2,59 +2,51 @@
 use Prim.Native.Nat.{ℕ, suc, _%_}
 use Prim.Native.Char.{code}
 use mathlib.Core.Bool.{cond}
-use mathlib.Core.List.{List, [], _∷_, _++_, flatMap}
-use lib.IntN.{ℤ, pos, negsuc}
+use mathlib.Core.List.{List, [], _∷_, _++_}
+use lib.Dec.{eqb}
+use lib.IntN.{ℤ, pos, negsuc, natAbs}
 use Rattle.rules.specs.Bytes.{ascii}
-use Rattle.rules.specs.Numbers.{withZeros, hexDigits}
-use Rattle.rules.specs.Sentences.{numbers02, numbers03}
-use Rattle.rules.specs.Answers.{numbers05, allowed, bytesOf}
-use Rattle.rules.specs.declared.Status as StatusType
+use Rattle.rules.specs.Answers.{kindOf, values, allowed, bytesOf}
+use Rattle.rules.specs.declared.Kind.{Kind}
+use Rattle.rules.specs.declared.Kind.the-variants.{OfAck, OfStatus, OfCommand, OfSentence}
 use Rattle.rules.specs.declared.Frame.{Frame}
-use Rattle.rules.specs.declared.Frame.the-variants.{Ack, Status, Command, Apa02, Apa03, Apa05, Other}
 use Rattle.lines.specs.Lines.{decimalText, spacedTexts, hexTexts}
 use Rattle.listings.specs.Kinds.{kindTexts}
 
--- a letter behind a space, and numbers behind a space each
-abbrev pub letterTexts : ℕ → List (List ℕ)
-letterTexts b = (code " " ∷ b ∷ []) ∷ []
+-- A number, with a minus where it is below zero, behind a space; and the letter that a value is.
+unfoldable pub signedTexts : ℤ → List (List ℕ)
+signedTexts (pos n) = spacedTexts n
+signedTexts (negsuc n) = ascii " -" ∷ decimalText (suc n) ∷ []
 
-abbrev pub numberTexts : List ℕ → List (List ℕ)
-numberTexts ns = flatMap spacedTexts ns
+abbrev pub letterOf : ℤ → ℕ
+letterOf v = natAbs v % 256
 
--- a temperature in tenths, with a minus where it is below zero
-unfoldable pub temperatureTexts : ℤ → List (List ℕ)
-temperatureTexts (pos n) = spacedTexts n
-temperatureTexts (negsuc n) = ascii " -" ∷ decimalText (suc n) ∷ []
+-- How a field is shown: N for a number; K for the number of a model, as 20K; L for a letter behind a space; J for a letter
+-- that is joined to what stands before it.
+unfoldable pub fieldTexts : ℕ → ℤ → List (List ℕ)
+fieldTexts form v =
+    cond (eqb form (code "K")) (signedTexts v ++ ascii "K" ∷ [])
+    (cond (eqb form (code "L")) ((code " " ∷ letterOf v ∷ []) ∷ [])
+    (cond (eqb form (code "J")) ((letterOf v ∷ []) ∷ [])
+    (signedTexts v)))
 
--- A status report: fields 1 to 6, of which the first is the model, as 20K; fields 7 to 9, of which the first is the
--- antenna with the tuner's letter; and the rest.
-unfoldable pub settingTexts : StatusType.Status → List (List ℕ)
-settingTexts s =
-    spacedTexts (s .id) ++ ((code "K" ∷ code " " ∷ s .state ∷ code " " ∷ s .direction ∷ code " " ∷ s .bank ∷ []) ∷ [])
-    ++ spacedTexts (s .input) ++ spacedTexts (s .band)
+-- The forms of the fields of each kind, in their order: a status report has letters, and the tuner's is joined to the
+-- antenna. All fields of the others are numbers.
+unfoldable pub formsOf : Kind → List ℕ
+formsOf (OfAck c) = ascii "NNNNNNNNNNNNNNNNNNNN"
+formsOf OfStatus = ascii "KLLLNNNJNLNNNNNNNNLL"
+formsOf (OfCommand c) = ascii "NNNNNNNNNNNNNNNNNNNN"
+formsOf (OfSentence n) = ascii "NNNNNNNNNNNNNNNNNNNN"
 
-unfoldable pub antennaTexts : StatusType.Status → List (List ℕ)
-antennaTexts s = spacedTexts (s .transmit) ++ ((s .tuner ∷ []) ∷ []) ++ spacedTexts (s .receive) ++ letterTexts (s .level)
-
-unfoldable pub statusValues : StatusType.Status → List (List ℕ)
-statusValues s =
-    settingTexts s ++ antennaTexts s
-    ++ numberTexts (s .watts ∷ s .swratu ∷ s .swrant ∷ s .volts ∷ s .amperes ∷ s .upper ∷ s .lower ∷ s .combiner ∷ [])
-    ++ letterTexts (s .warning) ++ letterTexts (s .alarm)
-
--- the values of a record; none for a frame that has no record
-unfoldable pub valueTexts : Frame → List (List ℕ)
-valueTexts (Ack c) = []
-valueTexts (Status s) = statusValues s
-valueTexts (Command c) = []
-valueTexts (Apa02 r) = numberTexts (numbers02 r)
-valueTexts (Apa03 r) = numberTexts (numbers03 r) ++ temperatureTexts (r .temp)
-valueTexts (Apa05 r) = numberTexts (numbers05 r)
-valueTexts (Other n) = []
+-- the values in these forms, one behind the other
+unfoldable pub shownTexts : List ℕ → List ℤ → List (List ℕ)
+shownTexts [] vs = []
+shownTexts (form ∷ forms) [] = []
+shownTexts (form ∷ forms) (v ∷ vs) = fieldTexts form v ++ shownTexts forms vs
 
 -- the written bytes, or a dash where nothing is written
 unfoldable pub writtenTexts : Frame → List (List ℕ)
 writtenTexts f = cond (allowed f) (hexTexts (bytesOf f)) (ascii "-" ∷ [])
 
 unfoldable pub frameTexts : Frame → List (List ℕ)
-frameTexts f = kindTexts f ++ valueTexts f ++ (ascii " | " ∷ []) ++ writtenTexts f
+frameTexts f = kindTexts (kindOf f) ++ shownTexts (formsOf (kindOf f)) (values f) ++ (ascii " | " ∷ []) ++ writtenTexts f

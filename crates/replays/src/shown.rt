@@ -5,26 +5,12 @@ use crate::values;
 use lines::hex;
 use lines::text;
 use listings::kind;
+use records::fields_of;
 use rules::Frame;
 use rules::REPORT_LENGTH;
 use rules::Written;
-ghost use mathlib.Core.List.{[], _∷_};
 ghost use Rattle.lines.specs.Lines.{Types};
-ghost use Rattle.replays.specs.Texts.{valueTexts, writtenTexts, frameTexts};
-ghost use Rattle.listings.specs.Kinds.{sentenceTexts, kindTexts};
-
-// The values of a record, each behind a space; none for a frame that has no record.
-fn values(line: &mut [u8], at: usize, frame: Frame) -> usize
-    ensures { λ r. ⌜ Types (valueTexts frame) (now (line .entry)) at (now (line .exit)) r ⌝ }
-{
-    match frame {
-        Frame::Status(s) => values::status(line, at, s),
-        Frame::Apa02(r) => values::sentence02(line, at, r),
-        Frame::Apa03(r) => values::sentence03(line, at, r),
-        Frame::Apa05(r) => values::sentence05(line, at, r),
-        Frame::Ack(_) | Frame::Command(_) | Frame::Other(_) => at,
-    }
-}
+ghost use Rattle.replays.specs.Texts.{writtenTexts, frameTexts};
 
 // The written bytes, or `-` where nothing is written.
 fn written(line: &mut [u8], at: usize, frame: Frame) -> usize
@@ -42,8 +28,13 @@ fn written(line: &mut [u8], at: usize, frame: Frame) -> usize
 pub fn frame(line: &mut [u8], at: usize, frame: Frame) -> usize
     ensures { λ r. ⌜ Types (frameTexts frame) (now (line .entry)) at (now (line .exit)) r ⌝ }
 {
-    let place = kind(line, at, frame);
-    let place = values(line, place, frame);
+    let told = fields_of(frame);
+    let of = told.kind;
+    let count = told.count;
+    let values = told.values;
+    let forms = values::forms_of(of);
+    let place = kind(line, at, of);
+    let place = values::shown(line, place, &forms, &values[..count]);
     let place = text(line, place, b" | ");
     written(line, place, frame)
 }

@@ -1,108 +1,63 @@
-// The values of each record, in the order of document 01.
+// The values of a frame as text, each in the form of its field.
 use lines::number;
 use lines::spaced;
 use lines::text;
-use records::of_02;
-use records::of_03;
-use records::of_05;
-use rules::Sentence02;
-use rules::Sentence03;
-use rules::Sentence05;
-use rules::Status;
+use records::VALUE_PLACES;
+use rules::Kind;
 ghost use mathlib.Core.Path.{_≡_};
-ghost use mathlib.Core.List.{_++_};
 ghost use lib.IntN.{natAbs};
-ghost use Rattle.rules.specs.Sentences.{numbers02, numbers03};
-ghost use Rattle.rules.specs.Answers.{numbers05};
-ghost use Rattle.lines.specs.Lines.{Types, spacedTexts};
-ghost use Rattle.replays.specs.Texts.{letterTexts, numberTexts, temperatureTexts, settingTexts, antennaTexts, statusValues};
+ghost use lib.ListN.{length};
+ghost use Prim.Native.Nat.{_≤_};
+ghost use Rattle.lines.specs.Lines.{Types};
+ghost use Rattle.replays.specs.Texts.{signedTexts, letterOf, fieldTexts, formsOf, shownTexts};
 
-// Each number behind a space.
-fn numbers(line: &mut [u8], at: usize, numbers: &[u32]) -> usize
-    ensures { λ r. ⌜ Types (numberTexts (now (numbers .entry))) (now (line .entry)) at (now (line .exit)) r ⌝ }
+// The forms of a status report's fields: a number, that of a model, a letter, and a letter joined to what stands before it.
+const STATUS_FORMS: [u8; VALUE_PLACES] = [
+    b'K',
+    b'L',
+    b'L',
+    b'L',
+    b'N',
+    b'N',
+    b'N',
+    b'J',
+    b'N',
+    b'L',
+    b'N',
+    b'N',
+    b'N',
+    b'N',
+    b'N',
+    b'N',
+    b'N',
+    b'N',
+    b'L',
+    b'L',
+];
+
+// The forms of the fields of a kind of frame.
+pub(crate) fn forms_of(kind: Kind) -> [u8; VALUE_PLACES]
+    ensures { λ r. ⌜ r ≡ formsOf kind ⌝ }
 {
-    let mut place = at;
-    let mut i = 0;
-    while i < numbers.len() {
-        place = value(line, place, numbers[i]);
-        i += 1;
+    match kind {
+        Kind::OfStatus => STATUS_FORMS,
+        Kind::OfAck(_) | Kind::OfCommand(_) | Kind::OfSentence(_) => [b'N'; VALUE_PLACES],
     }
-    place
 }
 
-fn value(line: &mut [u8], at: usize, n: u32) -> usize
-    ensures { λ r. ⌜ Types (spacedTexts n) (now (line .entry)) at (now (line .exit)) r ⌝ }
+// How far from zero.
+fn size(z: i64) -> u64
+    ensures { λ r. ⌜ r ≡ natAbs z ⌝ }
 {
-    spaced(line, at, n as u64)
+    if z < 0 {
+        return (0 - (z + 1)) as u64 + 1;
+    }
+    z as u64
 }
 
-fn letter(line: &mut [u8], at: usize, b: u8) -> usize
-    ensures { λ r. ⌜ Types (letterTexts b) (now (line .entry)) at (now (line .exit)) r ⌝ }
-{
-    let t = [b' ', b];
-    text(line, at, &t)
-}
-
-pub(crate) fn status(line: &mut [u8], at: usize, s: Status) -> usize
-    ensures { λ r. ⌜ Types (statusValues s) (now (line .entry)) at (now (line .exit)) r ⌝ }
-{
-    let place = settings(line, at, s);
-    let place = antennas(line, place, s);
-    let meters = [
-        s.watts,
-        s.swratu,
-        s.swrant,
-        s.volts,
-        s.amperes,
-        s.upper,
-        s.lower,
-        s.combiner,
-    ];
-    let place = numbers(line, place, &meters);
-    let place = letter(line, place, s.warning);
-    letter(line, place, s.alarm)
-}
-
-// Fields 1 to 6.
-fn settings(line: &mut [u8], at: usize, s: Status) -> usize
-    ensures { λ r. ⌜ Types (settingTexts s) (now (line .entry)) at (now (line .exit)) r ⌝ }
-{
-    let place = value(line, at, s.id as u32);
-    let letters = [b'K', b' ', s.state, b' ', s.direction, b' ', s.bank];
-    let place = text(line, place, &letters);
-    let place = value(line, place, s.input as u32);
-    value(line, place, s.band as u32)
-}
-
-// Fields 7 to 9.
-fn antennas(line: &mut [u8], at: usize, s: Status) -> usize
-    ensures { λ r. ⌜ Types (antennaTexts s) (now (line .entry)) at (now (line .exit)) r ⌝ }
-{
-    let place = value(line, at, s.transmit as u32);
-    let tuner = [s.tuner];
-    let place = text(line, place, &tuner);
-    let place = value(line, place, s.receive as u32);
-    letter(line, place, s.level)
-}
-
-pub(crate) fn sentence02(line: &mut [u8], at: usize, r: Sentence02) -> usize
-    ensures { λ place. ⌜ Types (numberTexts (numbers02 r)) (now (line .entry)) at (now (line .exit)) place ⌝ }
-{
-    let row = of_02(r);
-    numbers(line, at, &row)
-}
-
-pub(crate) fn sentence03(line: &mut [u8], at: usize, r: Sentence03) -> usize
-    ensures { λ place. ⌜ Types (numberTexts (numbers03 r) ++ temperatureTexts (r .temp)) (now (line .entry)) at (now (line .exit)) place ⌝ }
-{
-    let row = of_03(r);
-    let place = numbers(line, at, &row);
-    temperature(line, place, r.temp)
-}
-
-// A temperature in tenths, with a minus where it is below zero.
-fn temperature(line: &mut [u8], at: usize, z: i32) -> usize
-    ensures { λ r. ⌜ Types (temperatureTexts z) (now (line .entry)) at (now (line .exit)) r ⌝ }
+// A number behind a space, with a minus where it is below zero.
+fn signed(line: &mut [u8], at: usize, z: i64) -> usize
+    ensures { λ r. ⌜ Types (signedTexts z) (now (line .entry)) at (now (line .exit)) r ⌝ }
 {
     if z < 0 {
         let place = text(line, at, b" -");
@@ -111,19 +66,42 @@ fn temperature(line: &mut [u8], at: usize, z: i32) -> usize
     spaced(line, at, size(z))
 }
 
-// How far from zero.
-fn size(z: i32) -> u64
-    ensures { λ r. ⌜ r ≡ natAbs z ⌝ }
+// The letter that a value is.
+fn letter_of(v: i64) -> u8
+    ensures { λ r. ⌜ r ≡ letterOf v ⌝ }
 {
-    if z < 0 {
-        return (0 - z as i64) as u64;
-    }
-    z as u64
+    (size(v) % 256) as u8
 }
 
-pub(crate) fn sentence05(line: &mut [u8], at: usize, r: Sentence05) -> usize
-    ensures { λ place. ⌜ Types (numberTexts (numbers05 r)) (now (line .entry)) at (now (line .exit)) place ⌝ }
+// A value in the form of its field.
+fn field(line: &mut [u8], at: usize, form: u8, v: i64) -> usize
+    ensures { λ r. ⌜ Types (fieldTexts form v) (now (line .entry)) at (now (line .exit)) r ⌝ }
 {
-    let row = of_05(r);
-    numbers(line, at, &row)
+    if form == b'K' {
+        let place = signed(line, at, v);
+        return text(line, place, b"K");
+    }
+    if form == b'L' {
+        let spaced_letter = [b' ', letter_of(v)];
+        return text(line, at, &spaced_letter);
+    }
+    if form == b'J' {
+        let letter = [letter_of(v)];
+        return text(line, at, &letter);
+    }
+    signed(line, at, v)
+}
+
+// The values one behind the other.
+pub(crate) fn shown(line: &mut [u8], at: usize, forms: &[u8], values: &[i64]) -> usize
+    requires { ⌜ length (now values) ≤ length (now forms) ⌝ }
+    ensures { λ r. ⌜ Types (shownTexts (now (forms .entry)) (now (values .entry))) (now (line .entry)) at (now (line .exit)) r ⌝ }
+{
+    let mut place = at;
+    let mut i = 0;
+    while i < values.len() {
+        place = field(line, place, forms[i], values[i]);
+        i += 1;
+    }
+    place
 }

@@ -10,19 +10,25 @@ use lib.Dec.{eqb, leb, ltb}
 use lib.IntN.{ℤ}
 use Rattle.rules.specs.Bytes.{every}
 use Rattle.rules.specs.Codes.{codes, isCode, isAckCode}
-use Rattle.rules.specs.Answers.{Writes, saidToWrite, noCode, allowed, notAllowed, bytesOf}
+use Rattle.rules.specs.Answers.{Writes, saidToWrite, noCode, kindOf, allowed, notAllowed, bytesOf}
 use Rattle.rules.specs.declared.Frame.{Frame}
 use Rattle.rules.specs.declared.Frame.the-variants.{Ack, Command}
 use Rattle.rules.specs.declared.Written.{Written}
 use Rattle.frame_laws.proofs.Bytes.{both, either, answer, one-of-these}
 use Rattle.rows.specs.Rows.{refusalOf}
-use Rattle.row_writer.specs.Given.{lengthOr, WritesNumbers, WritesGiven}
+use Rattle.row_writer.specs.declared.given.Given.{Given}
+use Rattle.row_writer.specs.Given.{allowedGiven, refusalGiven, bytesGiven, lengthOr, WritesNumbers, WritesGiven}
 use Rattle.row_writer.proofs.Frames.{as-ack, as-command}
 
 -- what is written for a frame is written for the same frame
 pub same-frame : {f g : Frame} {out after : List ℕ} {a : Written} → f ≡ g
-    → Writes (allowed g) (notAllowed g) (bytesOf g) out a after → Writes (allowed f) (notAllowed f) (bytesOf f) out a after
+    → Writes (allowed g) (notAllowed (kindOf g)) (bytesOf g) out a after → Writes (allowed f) (notAllowed (kindOf f)) (bytesOf f) out a after
 same-frame e w = rw e w
+
+-- and the same of what is given
+pub same-given : {f g : Given} {out after : List ℕ} {a : Written} → f ≡ g
+    → Writes (allowedGiven g) (refusalGiven g) (bytesGiven g) out a after → Writes (allowedGiven f) (refusalGiven f) (bytesGiven f) out a after
+same-given e w = rw e w
 
 pub told : {may : Bool} {n : ℕ} {frame out after : List ℕ} {a : Written} {before answer length : ℕ}
     → Writes may n frame out a after → answer ≡ refusalOf (saidToWrite a) → length ≡ lengthOr before a

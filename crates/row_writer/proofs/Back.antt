@@ -12,7 +12,7 @@ use lib.ListN.{getD}
 use Rattle.rules.specs.Bytes.{ascii, oneOf, every}
 use Rattle.rules.specs.Status.{by, statusInRange, warnings, alarms}
 use Rattle.rules.specs.Sentences.{fit, numbers02, inRange02, numbers03, inRange03, inRange05}
-use Rattle.rules.specs.Answers.{numbers05, values, allowed}
+use Rattle.rules.specs.Answers.{numbers05, kindOf, values, allowed}
 use Rattle.rules.specs.declared.Status as StatusType
 use Rattle.rules.specs.declared.Sentence02.{Sentence02}
 use Rattle.rules.specs.declared.Sentence03.{Sentence03}
@@ -21,8 +21,9 @@ use Rattle.rules.specs.declared.Frame.{Frame}
 use Rattle.rules.specs.declared.Frame.the-variants.{Ack, Status, Command, Apa02, Apa03, Apa05, Other}
 use Rattle.frame_laws.proofs.Bytes.{tests, both-pass, one-of-these}
 use Rattle.frame_laws.proofs.Report.{fits}
-use Rattle.rows.specs.Rows.{frameKind, frameCode}
-use Rattle.row_writer.specs.Given.{upTo, aTemperature, numberUpTo, temperatureOf, valueAt, isStatusRow, isRow02, isRow03, isRow05, statusFrom, from02, from03, from05, sentenceFrom, frameOf}
+use Rattle.rows.specs.Rows.{kindRow, codeOf}
+use Rattle.row_writer.specs.declared.given.Given.the-variants.{AFrame}
+use Rattle.row_writer.specs.Given.{upTo, aTemperature, numberUpTo, temperatureOf, valueAt, isStatusRow, isRow02, isRow03, isRow05, statusFrom, from02, from03, from05, sentenceGiven, frameGiven}
 
 -- Numbers up to a limit, as values: they pass the test, and each is kept.
 abbrev Each : ℕ → List ℕ → Type 0
@@ -76,9 +77,9 @@ module _ (r : Sentence02) (e : inRange02 r ≡ true) where
         pep = k 12 i;
       }
 
-  back02 : frameOf 4 2 (values (Apa02 r)) ≡ Apa02 r
-  unfolding frameOf sentenceFrom
-  back02 = rw row02 (ap Apa02 record02)
+  back02 : frameGiven 4 2 (values (Apa02 r)) ≡ AFrame (Apa02 r)
+  unfolding frameGiven sentenceGiven
+  back02 = rw row02 (ap (λ x. AFrame (Apa02 x)) record02)
 
 -- Sentence 03: a temperature of four digits fits 32 bits with its sign.
 small-temperature : (z : ℤ) → natAbs z ≤ 9999 → aTemperature z ≡ true
@@ -115,9 +116,9 @@ module _ (r : Sentence03) (e : inRange03 r ≡ true) where
         temp = temp i;
       }
 
-  back03 : frameOf 4 3 (values (Apa03 r)) ≡ Apa03 r
-  unfolding frameOf sentenceFrom
-  back03 = rw row03 (ap Apa03 record03)
+  back03 : frameGiven 4 3 (values (Apa03 r)) ≡ AFrame (Apa03 r)
+  unfolding frameGiven sentenceGiven
+  back03 = rw row03 (ap (λ x. AFrame (Apa03 x)) record03)
 
 -- Sentence 05.
 module _ (r : Sentence05) (e : inRange05 r ≡ true) where
@@ -147,9 +148,9 @@ module _ (r : Sentence05) (e : inRange05 r ≡ true) where
         lcmd = k 10 i;
       }
 
-  back05 : frameOf 4 5 (values (Apa05 r)) ≡ Apa05 r
-  unfolding frameOf sentenceFrom
-  back05 = rw row05 (ap Apa05 record05)
+  back05 : frameGiven 4 5 (values (Apa05 r)) ≡ AFrame (Apa05 r)
+  unfolding frameGiven sentenceGiven
+  back05 = rw row05 (ap (λ x. AFrame (Apa05 x)) record05)
 
 -- The status report: ten bytes, eight words, two bytes. Its letters are bytes.
 letter : (cs : List ℕ) (b : ℕ) → every (λ c. leb c 255) cs ≡ true → oneOf cs b ≡ true → b ≤ 255
@@ -227,12 +228,12 @@ module _ (s : StatusType.Status) (e : statusInRange s ≡ true) where
         alarm = c 1 i;
       }
 
-  back-status : frameOf 2 0 (values (Status s)) ≡ Status s
-  unfolding frameOf
-  back-status = rw status-row (ap Status status-record)
+  back-status : frameGiven 2 0 (values (Status s)) ≡ AFrame (Status s)
+  unfolding frameGiven
+  back-status = rw status-row (ap (λ x. AFrame (Status x)) status-record)
 
-pub given-back : (f : Frame) → allowed f ≡ true → frameOf (frameKind f) (frameCode f) (values f) ≡ f
-unfolding allowed frameOf
+pub given-back : (f : Frame) → allowed f ≡ true → frameGiven (kindRow (kindOf f)) (codeOf (kindOf f)) (values f) ≡ AFrame f
+unfolding allowed frameGiven
 given-back (Ack c) e = refl
 given-back (Status s) e = back-status s e
 given-back (Command c) e = refl

@@ -1,6 +1,6 @@
 -- The frame that is given, by its kind and its number. Assumes nothing.
 use Prim.Native.Nat.{ℕ, _≤_}
-use mathlib.Core.Path.{_≡_, refl}
+use mathlib.Core.Path.{_≡_, refl, ap}
 use mathlib.Core.Bool.{Bool, true, false, _&&_, _||_, cond}
 use mathlib.Core.List.{List}
 use borrow.Author.Tests.{ne-eqb, ltb-false}
@@ -8,51 +8,53 @@ use lib.Dec.{eqb, ltb}
 use lib.IntN.{ℤ}
 use Rattle.rules.specs.declared.Frame.{Frame}
 use Rattle.rules.specs.declared.Frame.the-variants.{Ack, Status, Command, Apa02, Apa03, Apa05}
-use Rattle.row_writer.specs.Given.{isStatusRow, isRow02, isRow03, isRow05, statusFrom, from02, from03, from05, noFrame, sentenceFrom, frameOf}
+use Rattle.row_writer.specs.declared.given.Given.{Given}
+use Rattle.row_writer.specs.declared.given.Given.the-variants.{AFrame, Nothing}
+use Rattle.row_writer.specs.Given.{isStatusRow, isRow02, isRow03, isRow05, statusFrom, from02, from03, from05, sentenceGiven, frameGiven}
 
 -- a row that fits gives the frame, and one that does not gives none
-pub held : {fits : Bool} {f g : Frame} → fits ≡ true → f ≡ g → f ≡ cond fits g noFrame
-held e q = rw e q
+pub held : {fits : Bool} {f g : Frame} → fits ≡ true → f ≡ g → AFrame f ≡ cond fits (AFrame g) Nothing
+held e q = rw e (ap AFrame q)
 
-pub dropped : {fits : Bool} (g : Frame) → fits ≡ false → noFrame ≡ cond fits g noFrame
+pub dropped : {fits : Bool} (g : Given) → fits ≡ false → Nothing ≡ cond fits g Nothing
 dropped g e = rw e
 
 module _ (n : ℕ) (vs : List ℤ) where
-  pub as02 : n ≡ 2 → cond (isRow02 vs) (Apa02 (from02 vs)) noFrame ≡ sentenceFrom n vs
-  unfolding sentenceFrom
+  pub as02 : n ≡ 2 → cond (isRow02 vs) (AFrame (Apa02 (from02 vs))) Nothing ≡ sentenceGiven n vs
+  unfolding sentenceGiven
   as02 e = rw e
 
-  pub as03 : n ≡ 3 → cond (isRow03 vs) (Apa03 (from03 vs)) noFrame ≡ sentenceFrom n vs
-  unfolding sentenceFrom
+  pub as03 : n ≡ 3 → cond (isRow03 vs) (AFrame (Apa03 (from03 vs))) Nothing ≡ sentenceGiven n vs
+  unfolding sentenceGiven
   as03 e = rw e
 
-  pub as05 : n ≡ 5 → cond (isRow05 vs) (Apa05 (from05 vs)) noFrame ≡ sentenceFrom n vs
-  unfolding sentenceFrom
+  pub as05 : n ≡ 5 → cond (isRow05 vs) (AFrame (Apa05 (from05 vs))) Nothing ≡ sentenceGiven n vs
+  unfolding sentenceGiven
   as05 e = rw e
 
-  pub as-none : (n ≡ 2 → ⊥) → (n ≡ 3 → ⊥) → (n ≡ 5 → ⊥) → noFrame ≡ sentenceFrom n vs
-  unfolding sentenceFrom
+  pub as-none : (n ≡ 2 → ⊥) → (n ≡ 3 → ⊥) → (n ≡ 5 → ⊥) → Nothing ≡ sentenceGiven n vs
+  unfolding sentenceGiven
   as-none p q r = rw (ne-eqb n 2 p, ne-eqb n 3 q, ne-eqb n 5 r)
 
 module _ (kind code : ℕ) (vs : List ℤ) where
-  pub as-ack : kind ≡ 1 → Ack code ≡ frameOf kind code vs
-  unfolding frameOf
+  pub as-ack : kind ≡ 1 → AFrame (Ack code) ≡ frameGiven kind code vs
+  unfolding frameGiven
   as-ack e = rw e
 
-  pub as-status : kind ≡ 2 → cond (isStatusRow vs) (Status (statusFrom vs)) noFrame ≡ frameOf kind code vs
-  unfolding frameOf
+  pub as-status : kind ≡ 2 → cond (isStatusRow vs) (AFrame (Status (statusFrom vs))) Nothing ≡ frameGiven kind code vs
+  unfolding frameGiven
   as-status e = rw e
 
-  pub as-command : kind ≡ 3 → Command code ≡ frameOf kind code vs
-  unfolding frameOf
+  pub as-command : kind ≡ 3 → AFrame (Command code) ≡ frameGiven kind code vs
+  unfolding frameGiven
   as-command e = rw e
 
-  pub as-sentence : kind ≡ 4 → sentenceFrom code vs ≡ frameOf kind code vs
-  unfolding frameOf
+  pub as-sentence : kind ≡ 4 → sentenceGiven code vs ≡ frameGiven kind code vs
+  unfolding frameGiven
   as-sentence e = rw e
 
-  pub no-kind : (kind ≡ 1 → ⊥) → (kind ≡ 2 → ⊥) → (kind ≡ 3 → ⊥) → (kind ≡ 4 → ⊥) → noFrame ≡ frameOf kind code vs
-  unfolding frameOf
+  pub no-kind : (kind ≡ 1 → ⊥) → (kind ≡ 2 → ⊥) → (kind ≡ 3 → ⊥) → (kind ≡ 4 → ⊥) → Nothing ≡ frameGiven kind code vs
+  unfolding frameGiven
   no-kind p q r s = rw (ne-eqb kind 1 p, ne-eqb kind 2 q, ne-eqb kind 3 r, ne-eqb kind 4 s)
 
 -- a code that is not refused is a byte, where the kind has a code

@@ -3,21 +3,22 @@
 use Prim.Native.Nat.{ℕ}
 use mathlib.Core.Path.{_≡_}
 use mathlib.Core.Bool.{Bool, false, _&&_, cond}
-use mathlib.Core.List.{List}
+use mathlib.Core.List.{List, []}
 use lib.Dec.{eqb, leb}
 use lib.IntN.{ℤ, pos, negsuc, natAbs}
 use lib.ListN.{length, take, drop, getD}
 use Rattle.rules.specs.Bytes.{every}
-use Rattle.rules.specs.Answers.{saidToWrite, written, leaves, allowed, notAllowed, bytesOf}
+use Rattle.rules.specs.Answers.{saidToWrite, written, leaves, noRecord, kindOf, allowed, notAllowed, bytesOf}
 use Rattle.rules.specs.declared.Status as StatusType
 use Rattle.rules.specs.declared.Sentence02.{Sentence02}
 use Rattle.rules.specs.declared.Sentence03.{Sentence03}
 use Rattle.rules.specs.declared.Sentence05.{Sentence05}
-use Rattle.rules.specs.declared.Frame.{Frame}
-use Rattle.rules.specs.declared.Frame.the-variants.{Ack, Status, Command, Apa02, Apa03, Apa05, Other}
+use Rattle.rules.specs.declared.Frame.the-variants.{Ack, Status, Command, Apa02, Apa03, Apa05}
 use Rattle.rules.specs.declared.Written.{Written}
 use Rattle.rules.specs.declared.Written.the-variants.{Length, Refused}
 use Rattle.rows.specs.Rows.{refusalOf}
+use Rattle.row_writer.specs.declared.given.Given.{Given}
+use Rattle.row_writer.specs.declared.given.Given.the-variants.{AFrame, Nothing}
 
 -- a value from 0 to the limit
 abbrev pub upTo : ℕ → ℤ → Bool
@@ -135,25 +136,35 @@ from05 vs = record {
   lcmd = byteOf (valueAt vs 10);
 }
 
--- The frame that is given. One that no record can hold has no writer, like a sentence that has no record, and is refused
--- as that is.
-abbrev pub noFrame : Frame
-noFrame = Other 0
+-- What is given: a frame, or nothing, where no record can hold the values or there is no such kind.
+unfoldable pub sentenceGiven : ℕ → List ℤ → Given
+sentenceGiven number vs =
+    cond (eqb number 2) (cond (isRow02 vs) (AFrame (Apa02 (from02 vs))) Nothing)
+    (cond (eqb number 3) (cond (isRow03 vs) (AFrame (Apa03 (from03 vs))) Nothing)
+    (cond (eqb number 5) (cond (isRow05 vs) (AFrame (Apa05 (from05 vs))) Nothing)
+    Nothing))
 
-unfoldable pub sentenceFrom : ℕ → List ℤ → Frame
-sentenceFrom number vs =
-    cond (eqb number 2) (cond (isRow02 vs) (Apa02 (from02 vs)) noFrame)
-    (cond (eqb number 3) (cond (isRow03 vs) (Apa03 (from03 vs)) noFrame)
-    (cond (eqb number 5) (cond (isRow05 vs) (Apa05 (from05 vs)) noFrame)
-    noFrame))
+unfoldable pub frameGiven : ℕ → ℕ → List ℤ → Given
+frameGiven kind code vs =
+    cond (eqb kind 1) (AFrame (Ack code))
+    (cond (eqb kind 2) (cond (isStatusRow vs) (AFrame (Status (statusFrom vs))) Nothing)
+    (cond (eqb kind 3) (AFrame (Command code))
+    (cond (eqb kind 4) (sentenceGiven code vs)
+    Nothing)))
 
-unfoldable pub frameOf : ℕ → ℕ → List ℤ → Frame
-frameOf kind code vs =
-    cond (eqb kind 1) (Ack code)
-    (cond (eqb kind 2) (cond (isStatusRow vs) (Status (statusFrom vs)) noFrame)
-    (cond (eqb kind 3) (Command code)
-    (cond (eqb kind 4) (sentenceFrom code vs)
-    noFrame)))
+-- Whether what is given is allowed, its refusal where it is not, and its bytes. Nothing is refused as a record is that is
+-- not allowed.
+abbrev pub allowedGiven : Given → Bool
+allowedGiven (AFrame f) = allowed f
+allowedGiven Nothing = false
+
+abbrev pub refusalGiven : Given → ℕ
+refusalGiven (AFrame f) = notAllowed (kindOf f)
+refusalGiven Nothing = noRecord
+
+abbrev pub bytesGiven : Given → List ℕ
+bytesGiven (AFrame f) = bytesOf f
+bytesGiven Nothing = []
 
 -- The length goes where the caller lent a place for it; on a refusal that place keeps what it held.
 abbrev pub lengthOr : ℕ → Written → ℕ
@@ -167,5 +178,5 @@ pub record WritesNumbers (may : Bool) (n : ℕ) (frame out : List ℕ) (before a
 
 abbrev pub WritesGiven : ℕ → ℕ → List ℤ → List ℕ → ℕ → ℕ → List ℕ → ℕ → Type 0
 WritesGiven kind code vs =
-    let f = frameOf kind code vs in
-    WritesNumbers (allowed f) (notAllowed f) (bytesOf f)
+    let g = frameGiven kind code vs in
+    WritesNumbers (allowedGiven g) (refusalGiven g) (bytesGiven g)

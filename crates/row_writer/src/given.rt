@@ -7,12 +7,19 @@ use crate::fits::fits_signed;
 use crate::fits::temperature_at;
 use crate::fits::value_at;
 use crate::fits::word_at;
+use rules::Frame;
 use rules::Sentence02;
 use rules::Sentence03;
 use rules::Sentence05;
 use rules::Status;
 ghost use mathlib.Core.Path.{_≡_};
 ghost use Rattle.row_writer.specs.Given.{isStatusRow, isRow02, isRow03, isRow05, statusFrom, from02, from03, from05};
+
+// What a caller gives: a frame, or nothing, where no record can hold the values or there is no such kind.
+pub enum Given {
+    AFrame(Frame),
+    Nothing,
+}
 
 // Ten bytes, eight words, two bytes.
 pub(crate) fn is_status_row(values: &[i64]) -> bool

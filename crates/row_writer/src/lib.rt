@@ -3,6 +3,7 @@
 mod fits;
 mod given;
 
+use crate::given::Given;
 use crate::given::from02;
 use crate::given::from03;
 use crate::given::from05;
@@ -22,17 +23,17 @@ use rules::Written;
 ghost use mathlib.Core.Path.{_≡_};
 ghost use mathlib.Core.Bool.{true, false, _&&_, _||_};
 ghost use lib.Dec.{eqb, ltb};
-ghost use Rattle.rules.specs.Answers.{Writes, noRoom, allowed, notAllowed, bytesOf, saidToWrite};
+ghost use Rattle.rules.specs.Answers.{Writes, noRoom, kindOf, allowed, notAllowed, bytesOf, saidToWrite};
 ghost use Rattle.rules.specs.Sentences.{enableBytes};
 ghost use Rattle.rows.specs.Rows.{refusalOf};
-ghost use Rattle.row_writer.specs.Given.{sentenceFrom, frameOf, lengthOr, WritesNumbers, WritesGiven};
+ghost use Rattle.row_writer.specs.Given.{sentenceGiven, frameGiven, allowedGiven, refusalGiven, bytesGiven, lengthOr, WritesNumbers, WritesGiven};
 
 // The refusal of a code that is none, as a C program has it.
 const IS_NO_CODE: u32 = NO_CODE as u32;
 
 // A frame by the writer of its kind; another sentence has none.
 pub fn write_frame(f: Frame, out: &mut [u8]) -> Written
-    ensures { λ r. ⌜ Writes (allowed f) (notAllowed f) (bytesOf f) (now (out .entry)) r (now (out .exit)) ⌝ }
+    ensures { λ r. ⌜ Writes (allowed f) (notAllowed (kindOf f)) (bytesOf f) (now (out .entry)) r (now (out .exit)) ⌝ }
 {
     match f {
         Frame::Ack(code) => spe_writer::write_ack(code, out),
@@ -46,50 +47,60 @@ pub fn write_frame(f: Frame, out: &mut [u8]) -> Written
 }
 
 // The sentence of a number, where the row fits its record.
-fn sentence_given(number: u32, values: &[i64]) -> Frame
-    ensures { λ r. ⌜ r ≡ sentenceFrom number (now (values .entry)) ⌝ }
+fn sentence_given(number: u32, values: &[i64]) -> Given
+    ensures { λ r. ⌜ r ≡ sentenceGiven number (now (values .entry)) ⌝ }
 {
     if number == 2 {
         if is_row02(values) {
-            return Frame::Apa02(from02(values));
+            return Given::AFrame(Frame::Apa02(from02(values)));
         }
-        return Frame::Other(0);
+        return Given::Nothing;
     }
     if number == 3 {
         if is_row03(values) {
-            return Frame::Apa03(from03(values));
+            return Given::AFrame(Frame::Apa03(from03(values)));
         }
-        return Frame::Other(0);
+        return Given::Nothing;
     }
     if number == 5 {
         if is_row05(values) {
-            return Frame::Apa05(from05(values));
+            return Given::AFrame(Frame::Apa05(from05(values)));
         }
     }
-    Frame::Other(0)
+    Given::Nothing
 }
 
 // The frame of a kind. A code that a frame holds has to be a byte.
-fn frame_given(kind: u32, code: u32, values: &[i64]) -> Frame
+fn frame_given(kind: u32, code: u32, values: &[i64]) -> Given
     requires { ⌜ (ltb 255 code && (eqb kind 1 || eqb kind 3)) ≡ false ⌝ }
-    ensures { λ r. ⌜ r ≡ frameOf kind code (now (values .entry)) ⌝ }
+    ensures { λ r. ⌜ r ≡ frameGiven kind code (now (values .entry)) ⌝ }
 {
     if kind == ACK_ROW {
-        return Frame::Ack(code as u8);
+        return Given::AFrame(Frame::Ack(code as u8));
     }
     if kind == STATUS_ROW {
         if is_status_row(values) {
-            return Frame::Status(status_from(values));
+            return Given::AFrame(Frame::Status(status_from(values)));
         }
-        return Frame::Other(0);
+        return Given::Nothing;
     }
     if kind == COMMAND_ROW {
-        return Frame::Command(code as u8);
+        return Given::AFrame(Frame::Command(code as u8));
     }
     if kind == SENTENCE_ROW {
         return sentence_given(code, values);
     }
-    Frame::Other(0)
+    Given::Nothing
+}
+
+// What is given, by the writer of its kind; nothing is refused as a record is.
+fn write_what(given: Given, out: &mut [u8]) -> Written
+    ensures { λ r. ⌜ Writes (allowedGiven given) (refusalGiven given) (bytesGiven given) (now (out .entry)) r (now (out .exit)) ⌝ }
+{
+    match given {
+        Given::AFrame(f) => write_frame(f, out),
+        Given::Nothing => Written::Refused(NO_RECORD),
+    }
 }
 
 // A writer's answer as a number; its length goes to the lent place.
@@ -112,7 +123,7 @@ pub fn write_given(kind: u32, code: u32, values: &[i64], out: &mut [u8], length:
     if (255 < code) & ((kind == ACK_ROW) | (kind == COMMAND_ROW)) {
         return IS_NO_CODE;
     }
-    tell(write_frame(frame_given(kind, code, values), out), length)
+    tell(write_what(frame_given(kind, code, values), out), length)
 }
 
 // The bytes that enable the Alpha.

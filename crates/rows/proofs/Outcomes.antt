@@ -8,7 +8,7 @@ use borrow.Author.Tests.{le-leb, lt-leb}
 use lib.Dec.{eqb}
 use lib.IntN.{ℤ}
 use lib.ListN.{length}
-use Rattle.rules.specs.Answers.{Kind, no, yes, noRoom}
+use Rattle.rules.specs.Answers.{Answered, no, yes, noRoom}
 use Rattle.rows.specs.Rows.{front, LaysRow, Lays}
 
 module _ {r numbers : List ℤ} where
@@ -18,7 +18,7 @@ module _ {r numbers : List ℤ} where
   pub at-the-front : {after : List ℤ} → length r ≤ length numbers → after ≡ front r numbers → LaysRow r numbers 0 after
   at-the-front h laid = record { answers = rw (le-leb _ _ h); content = laid }
 
-  pub lays : {kind : Kind} {vs : List ℤ} {result : ℕ} {after : List ℤ} → LaysRow r numbers result after → Lays (yes kind vs) r numbers result after
+  pub lays : {kind : Answered} {vs : List ℤ} {result : ℕ} {after : List ℤ} → LaysRow r numbers result after → Lays (yes kind vs) r numbers result after
   lays p = record { answers = p .answers; content = p .content }
 
 -- a refusal has no row

@@ -9,9 +9,10 @@ use lib.IntN.{ℤ, pos}
 use denote.Ref.{RefT, now}
 use denote.Triple.Both.{Both}
 use lib.ListN.{length, take, drop}
-use Rattle.rules.specs.Answers.{Says, no, yes, noRoom, values}
+use Rattle.rules.specs.Answers.{Says, no, yes, noRoom, kindOf, values}
 use Rattle.rules.specs.declared.Frame.{Frame}
-use Rattle.rules.specs.declared.Frame.the-variants.{Ack, Status, Command, Apa02, Apa03, Apa05, Other}
+use Rattle.rules.specs.declared.Kind.{Kind}
+use Rattle.rules.specs.declared.Kind.the-variants.{OfAck, OfStatus, OfCommand, OfSentence}
 use Rattle.rules.specs.declared.Reading.{Reading}
 use Rattle.rules.specs.declared.Reading.the-variants.{Good, Refused as NotGood}
 use Rattle.stream_rules.specs.declared.Answer.{Answer}
@@ -43,24 +44,18 @@ rowHead = 6
 abbrev pub longestRow : ℕ
 longestRow = 26
 
-abbrev pub frameKind : Frame → ℕ
-frameKind (Ack c) = ackRow
-frameKind (Status s) = statusRow
-frameKind (Command c) = commandRow
-frameKind (Apa02 r) = sentenceRow
-frameKind (Apa03 r) = sentenceRow
-frameKind (Apa05 r) = sentenceRow
-frameKind (Other n) = sentenceRow
+abbrev pub kindRow : Kind → ℕ
+kindRow (OfAck c) = ackRow
+kindRow OfStatus = statusRow
+kindRow (OfCommand c) = commandRow
+kindRow (OfSentence n) = sentenceRow
 
 -- the code of an acknowledgement or a command, the number of a sentence; a status report has neither
-abbrev pub frameCode : Frame → ℕ
-frameCode (Ack c) = c
-frameCode (Status s) = 0
-frameCode (Command c) = c
-frameCode (Apa02 r) = 2
-frameCode (Apa03 r) = 3
-frameCode (Apa05 r) = 5
-frameCode (Other n) = n
+abbrev pub codeOf : Kind → ℕ
+codeOf (OfAck c) = c
+codeOf OfStatus = 0
+codeOf (OfCommand c) = c
+codeOf (OfSentence n) = n
 
 -- Counts are laid modulo 2^63: nothing that C can lend is that long.
 abbrev pub counted : ℕ → ℤ
@@ -71,7 +66,7 @@ abbrev pub head : ℕ → ℕ → ℕ → ℕ → ℕ → ℕ → List ℤ
 head kind code taken start skipped size = pos kind ∷ pos code ∷ counted taken ∷ pos start ∷ pos skipped ∷ counted size ∷ []
 
 abbrev pub row : ℕ → ℕ → ℕ → ℕ → Frame → List ℤ
-row taken start skipped size f = head (frameKind f) (frameCode f) taken start skipped size ++ values f
+row taken start skipped size f = head (kindRow (kindOf f)) (codeOf (kindOf f)) taken start skipped size ++ values f
 
 -- without a frame
 abbrev pub rowWithout : ℕ → ℕ → List ℤ

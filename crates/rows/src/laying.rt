@@ -1,23 +1,19 @@
 // A frame, and what a call answers, as a row of numbers laid at the front of lent memory. The values
 // of a frame stand behind the row's first six numbers.
-use records::of_02;
-use records::of_03;
-use records::of_05;
-use records::of_status;
+use records::fields_of;
 use rules::Frame;
+use rules::Kind;
 use rules::NO_ROOM;
 use rules::Reading;
-use rules::Sentence03;
 use stream_rules::Answer;
 ghost use mathlib.Core.Path.{_≡_};
-ghost use mathlib.Core.List.{[], _∷_, _++_, map};
+ghost use mathlib.Core.List.{_++_, map};
 ghost use lib.IntN.{pos};
 ghost use lib.ListN.{length};
 ghost use Prim.Native.Nat.{_+_, _≤_};
-ghost use Rattle.rules.specs.Answers.{said, values};
-ghost use Rattle.rules.specs.Sentences.{numbers03};
+ghost use Rattle.rules.specs.Answers.{said};
 ghost use Rattle.stream_rules.specs.Streams.{saidToFeed};
-ghost use Rattle.rows.specs.Rows.{frameKind, frameCode, counted, head, row, rowFed, rowAt, laidAt, RowIn, AnswerIn};
+ghost use Rattle.rows.specs.Rows.{rowHead, kindRow, codeOf, counted, head, row, rowFed, rowAt, laidAt, RowIn, AnswerIn};
 
 // The first number of a row: what kind of frame, or that more is wanted, or that all is done.
 pub const ACK_ROW: u32 = 1;
@@ -59,59 +55,39 @@ fn count(n: usize) -> i64
     (n % 0x8000_0000_0000_0000) as i64
 }
 
-// The first number of a frame's row.
-fn kind(frame: Frame) -> u32
-    ensures { λ r. ⌜ r ≡ frameKind frame ⌝ }
+// The first number of the row of a frame of a kind.
+fn kind_row(kind: Kind) -> u32
+    ensures { λ r. ⌜ r ≡ kindRow kind ⌝ }
 {
-    match frame {
-        Frame::Ack(_) => ACK_ROW,
-        Frame::Status(_) => STATUS_ROW,
-        Frame::Command(_) => COMMAND_ROW,
-        Frame::Apa02(_) => SENTENCE_ROW,
-        Frame::Apa03(_) => SENTENCE_ROW,
-        Frame::Apa05(_) => SENTENCE_ROW,
-        Frame::Other(_) => SENTENCE_ROW,
+    match kind {
+        Kind::OfAck(_) => ACK_ROW,
+        Kind::OfStatus => STATUS_ROW,
+        Kind::OfCommand(_) => COMMAND_ROW,
+        Kind::OfSentence(_) => SENTENCE_ROW,
     }
 }
 
-// The second number of a frame's row.
-fn code(frame: Frame) -> u32
-    ensures { λ r. ⌜ r ≡ frameCode frame ⌝ }
+// The second number of that row.
+fn code_of(kind: Kind) -> u32
+    ensures { λ r. ⌜ r ≡ codeOf kind ⌝ }
 {
-    match frame {
-        Frame::Ack(code) => code as u32,
-        Frame::Status(_) => 0,
-        Frame::Command(code) => code as u32,
-        Frame::Apa02(_) => 2,
-        Frame::Apa03(_) => 3,
-        Frame::Apa05(_) => 5,
-        Frame::Other(n) => n as u32,
+    match kind {
+        Kind::OfAck(code) => code as u32,
+        Kind::OfStatus => 0,
+        Kind::OfCommand(code) => code as u32,
+        Kind::OfSentence(n) => n as u32,
     }
-}
-
-// The values of sentence 03; the last of them has a sign.
-fn put_03(numbers: &mut [i64], r: Sentence03)
-    requires { ⌜ 15 ≤ length (now numbers) ⌝ }
-    ensures { λ _. ⌜ now (numbers .exit) ≡ laidAt 6 (map pos (numbers03 r) ++ r .temp ∷ []) (now (numbers .entry)) ⌝ }
-{
-    let what = of_03(r);
-    put_numbers(numbers, ROW_HEAD, &what);
-    numbers[14] = r.temp as i64;
 }
 
 // The frame's values, behind the six numbers in front of them.
-fn put_values(numbers: &mut [i64], frame: Frame)
-    requires { ⌜ 6 + length (values frame) ≤ length (now numbers) ⌝ }
-    ensures { λ _. ⌜ now (numbers .exit) ≡ laidAt 6 (values frame) (now (numbers .entry)) ⌝ }
+fn put_values(numbers: &mut [i64], values: &[i64])
+    requires { ⌜ rowHead + length (now values) ≤ length (now numbers) ⌝ }
+    ensures { λ _. ⌜ now (numbers .exit) ≡ laidAt rowHead (now (values .entry)) (now (numbers .entry)) ⌝ }
 {
-    match frame {
-        Frame::Status(s) => put_numbers(numbers, ROW_HEAD, &of_status(s)),
-        Frame::Apa02(r) => put_numbers(numbers, ROW_HEAD, &of_02(r)),
-        Frame::Apa03(r) => put_03(numbers, r),
-        Frame::Apa05(r) => put_numbers(numbers, ROW_HEAD, &of_05(r)),
-        Frame::Ack(_) => {}
-        Frame::Command(_) => {}
-        Frame::Other(_) => {}
+    let mut i = 0;
+    while i < values.len() {
+        numbers[ROW_HEAD + i] = values[i];
+        i += 1;
     }
 }
 
@@ -134,21 +110,6 @@ fn put_head(
     numbers[5] = count(size);
 }
 
-// How long a frame's row is: its values behind the six numbers.
-fn row_length(frame: Frame) -> usize
-    ensures { λ r. ⌜ r ≡ 6 + length (values frame) ⌝ }
-{
-    match frame {
-        Frame::Ack(_) => ROW_HEAD,
-        Frame::Status(_) => LONGEST_ROW,
-        Frame::Command(_) => ROW_HEAD,
-        Frame::Apa02(_) => 19,
-        Frame::Apa03(_) => 15,
-        Frame::Apa05(_) => 17,
-        Frame::Other(_) => ROW_HEAD,
-    }
-}
-
 // The row of a frame. Refusal 4 where it has no room.
 fn lay_frame(
     frame: Frame,
@@ -160,19 +121,23 @@ fn lay_frame(
 ) -> u32
     ensures { λ r. ⌜ RowIn numbers r (row taken start skipped size frame) ⌝ }
 {
-    if numbers.len() < row_length(frame) {
+    let told = fields_of(frame);
+    let kind = told.kind;
+    let count = told.count;
+    let values = told.values;
+    if numbers.len() < ROW_HEAD + count {
         return HAS_NO_ROOM;
     }
     put_head(
         numbers,
-        kind(frame),
-        code(frame),
+        kind_row(kind),
+        code_of(kind),
         taken,
         start,
         skipped,
         size,
     );
-    put_values(numbers, frame);
+    put_values(numbers, &values[..count]);
     0
 }
 

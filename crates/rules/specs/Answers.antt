@@ -14,6 +14,8 @@ use Rattle.rules.specs.declared.Status as StatusType
 use Rattle.rules.specs.declared.Sentence05.{Sentence05}
 use Rattle.rules.specs.declared.Frame.{Frame}
 use Rattle.rules.specs.declared.Frame.the-variants.{Ack, Status, Command, Apa02, Apa03, Apa05, Other}
+use Rattle.rules.specs.declared.Kind.{Kind}
+use Rattle.rules.specs.declared.Kind.the-variants.{OfAck, OfStatus, OfCommand, OfSentence}
 use Rattle.rules.specs.declared.Reading.{Reading}
 use Rattle.rules.specs.declared.Reading.the-variants.{Good, Refused}
 use Rattle.rules.specs.declared.Written.{Written}
@@ -45,35 +47,34 @@ noRoom = 4
 abbrev pub notGood : ℕ
 notGood = 8
 
--- The kinds of answers that are no refusals. A frame is an acknowledgement or a command with its code, a status report, or
--- a sentence with its number, as a listing tells them apart.
-pub data Kind : Type 0 where
-  ofAck : ℕ → Kind
-  ofStatus : Kind
-  ofCommand : ℕ → Kind
-  ofSentence : ℕ → Kind
-  moreWanted : Kind
-  nowDone : Kind
-  lengthWritten : Kind
-  startsListed : Kind
-  accepted : Kind
+-- The kinds of answers that are no refusals: a frame of its kind, more bytes wanted, a stream that is done, a length
+-- written, starts listed, and a call accepted.
+pub data Answered : Type 0 where
+  aFrame : Kind → Answered
+  moreWanted : Answered
+  nowDone : Answered
+  lengthWritten : Answered
+  startsListed : Answered
+  accepted : Answered
 
 -- What an answer says in the terms of document 01: no, with its number only; or yes, with its kind and its values in their
 -- order.
 pub data Says : Type 0 where
   no : ℕ → Says
-  yes : Kind → List ℤ → Says
+  yes : Answered → List ℤ → Says
 
+-- The kind of a frame, as a listing tells them apart.
 abbrev pub kindOf : Frame → Kind
-kindOf (Ack c) = ofAck c
-kindOf (Status s) = ofStatus
-kindOf (Command c) = ofCommand c
-kindOf (Apa02 r) = ofSentence 2
-kindOf (Apa03 r) = ofSentence 3
-kindOf (Apa05 r) = ofSentence 5
-kindOf (Other n) = ofSentence n
+kindOf (Ack c) = OfAck c
+kindOf (Status s) = OfStatus
+kindOf (Command c) = OfCommand c
+kindOf (Apa02 r) = OfSentence 2
+kindOf (Apa03 r) = OfSentence 3
+kindOf (Apa05 r) = OfSentence 5
+kindOf (Other n) = OfSentence n
 
--- The values of a frame: of a status report its fields, of a sentence with a record its numbers; the others have none.
+-- The values of a frame, in the order of document 01: of a status report its fields, of a sentence with a record its
+-- numbers; the others have none.
 abbrev pub statusNumbers : StatusType.Status → List ℕ
 statusNumbers s =
     s .id ∷ s .state ∷ s .direction ∷ s .bank ∷ s .input ∷ s .band ∷ s .transmit ∷ s .tuner ∷ s .receive ∷ s .level
@@ -94,7 +95,7 @@ values (Other n) = []
 
 -- each case of the answer of a reader of one frame, and of a writer
 abbrev pub said : Reading → Says
-said (Good f) = yes (kindOf f) (values f)
+said (Good f) = yes (aFrame (kindOf f)) (values f)
 said (Refused n) = no n
 
 -- whether an answer is a good frame
@@ -141,7 +142,7 @@ abbrev pub isFamily : ℕ → Bool
 isFamily family = oneOf (replies ∷ sentences ∷ commands ∷ []) family
 
 abbrev pub valuesOr8 : Reading → Says
-valuesOr8 (Good f) = yes (kindOf f) (values f)
+valuesOr8 (Good f) = yes (aFrame (kindOf f)) (values f)
 valuesOr8 (Refused n) = no notGood
 
 pub record Reads (family : ℕ) (bytes : List ℕ) (answer : Reading) : Type 0 where
@@ -162,17 +163,15 @@ pub record Writes (allowed : Bool) (n : ℕ) (frame out : List ℕ) (answer : Wr
   pub says : saidToWrite answer ≡ cond (not allowed) (no n) (cond (not (leb (length frame) (length out))) (no noRoom) (yes lengthWritten (pos (length frame) ∷ [])))
   pub content : after ≡ leaves allowed frame out
 
--- What the writers know of a frame: the family that reads it, whether its code or record is allowed, and its bytes. An
--- "other" sentence has no writer.
-abbrev pub familyOf : Frame → ℕ
-familyOf (Ack c) = replies
-familyOf (Status s) = replies
-familyOf (Command c) = commands
-familyOf (Apa02 r) = sentences
-familyOf (Apa03 r) = sentences
-familyOf (Apa05 r) = sentences
-familyOf (Other n) = sentences
+-- the family that reads frames of a kind
+abbrev pub familyOf : Kind → ℕ
+familyOf (OfAck c) = replies
+familyOf OfStatus = replies
+familyOf (OfCommand c) = commands
+familyOf (OfSentence n) = sentences
 
+-- What the writers know of a frame: whether its code or record is allowed, and its bytes. An "other" sentence has no
+-- writer, so it is never allowed and has no bytes.
 unfoldable pub allowed : Frame → Bool
 allowed (Ack c) = isAckCode c
 allowed (Status s) = statusInRange s
@@ -191,21 +190,16 @@ bytesOf (Apa03 r) = bytes03 r
 bytesOf (Apa05 r) = bytes05 r
 bytesOf (Other n) = []
 
+abbrev pub isSome : List ℕ → Bool
+isSome [] = false
+isSome (b ∷ bs) = true
+
 abbrev pub hasWriter : Frame → Bool
-hasWriter (Ack c) = true
-hasWriter (Status s) = true
-hasWriter (Command c) = true
-hasWriter (Apa02 r) = true
-hasWriter (Apa03 r) = true
-hasWriter (Apa05 r) = true
-hasWriter (Other n) = false
+hasWriter f = isSome (bytesOf f)
 
 -- the refusal of a frame that is not allowed: 2 for a code, 3 for a record
-abbrev pub notAllowed : Frame → ℕ
-notAllowed (Ack c) = noCode
-notAllowed (Status s) = noRecord
-notAllowed (Command c) = noCode
-notAllowed (Apa02 r) = noRecord
-notAllowed (Apa03 r) = noRecord
-notAllowed (Apa05 r) = noRecord
-notAllowed (Other n) = noRecord
+abbrev pub notAllowed : Kind → ℕ
+notAllowed (OfAck c) = noCode
+notAllowed OfStatus = noRecord
+notAllowed (OfCommand c) = noCode
+notAllowed (OfSentence n) = noRecord

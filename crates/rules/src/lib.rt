@@ -149,6 +149,15 @@ pub enum Frame {
     Other(u8),
 }
 
+// The kind of a frame: an acknowledgement or a command with its code, a status report, or a sentence
+// with its number.
+pub enum Kind {
+    OfAck(u8),
+    OfStatus,
+    OfCommand(u8),
+    OfSentence(u8),
+}
+
 // The answer of a reader of one frame.
 pub enum Reading {
     Good(Frame),

@@ -1,7 +1,7 @@
 -- What the answers of a stream and of the lister say in the terms of document 01, from what they are. Assumes nothing.
 use Prim.Native.Nat.{ℕ}
 use mathlib.Core.Path.{_≡_, refl, ap, _∙_}
-use mathlib.Core.Bool.{Bool, true, false, _&&_, cond, not}
+use mathlib.Core.Bool.{Bool, true, false, cond, not}
 use mathlib.Core.List.{List, [], _∷_}
 use lib.Dec.{eqb, leb}
 use lib.IntN.{pos}
@@ -9,7 +9,7 @@ use lib.ListN.{length}
 use Rattle.rules.specs.Answers.{startsListed, accepted, no, yes, noFamily, noRoom, isFamily}
 use Rattle.stream_rules.specs.Heads.{head, atClose}
 use Rattle.stream_rules.specs.Rule.{Look, ready, waiting, look, Call, gives, wants, call}
-use Rattle.stream_rules.specs.Streams.{holds, heldOf, holding, isClosed, holdsTooMuch, kindFed, valuesFed, saidToFeed, saidToTurn, refuse, openCall, closedCall, fed, shut, fresh, Feeds, Shuts, Makes}
+use Rattle.stream_rules.specs.Streams.{holds, heldOf, holding, isClosed, holdsTooMuch, saidToFeed, saidToTurn, refuse, openCall, closedCall, saysOpen, saysClosed, fed, shut, fresh, Feeds, Shuts, Makes}
 use Rattle.stream_rules.specs.Lister.{frames, fits, tooLong, listed, saidToList, listLeft, Lists}
 use Rattle.stream_rules.specs.declared.Reader.{Reader}
 use Rattle.stream_rules.specs.declared.Fed.{Fed}
@@ -28,18 +28,26 @@ by-tests r on left a b c d =
     (cond (not d) (refuse r isClosed)
     (closedCall r left))))
 
+open-says : (r : Reader) (c : Call) → saidToFeed ((openCall r c) .answer) ≡ saysOpen r c
+open-says r (gives taken k n f kept) = refl
+open-says r (wants taken k kept) = refl
+
+closed-says : (r : Reader) (l : Look) → saidToFeed ((closedCall r l) .answer) ≡ saysClosed r l
+closed-says r (ready k n f behind) = refl
+closed-says r (waiting k rest) = refl
+
 call-says : (r : Reader) (on : Call) (left : Look) (a b c d : Bool)
     → saidToFeed (by-tests r on left a b c d .answer)
     ≡ cond (not a) (no noFamily)
     (cond (not b) (no holdsTooMuch)
-    (cond (not c && not d) (no isClosed) (yes (kindFed (by-tests r on left a b c d .answer)) (valuesFed (by-tests r on left a b c d .answer)))))
+    (cond c (saysOpen r on)
+    (cond (not d) (no isClosed)
+    (saysClosed r left))))
 call-says r on left false b c d = refl
 call-says r on left true false c d = refl
-call-says r (gives taken k n f kept) left true true true d = refl
-call-says r (wants taken k kept) left true true true d = refl
+call-says r on left true true true d = open-says r on
 call-says r on left true true false false = refl
-call-says r on (ready k n f behind) true true false true = refl
-call-says r on (waiting k rest) true true false true = refl
+call-says r on left true true false true = closed-says r left
 
 pub feeds : {r : Reader} {offered : List ℕ} {f : Fed} → f ≡ fed r offered → Feeds r offered f
 unfolding fed

@@ -1,12 +1,12 @@
 -- The stream reader: its state, the answers of its calls, and its refusals in their order.
 use Prim.Native.Nat.{ℕ, _+_, _-_, _%_, _^_}
 use mathlib.Core.Path.{_≡_}
-use mathlib.Core.Bool.{_&&_, cond, not}
+use mathlib.Core.Bool.{cond, not}
 use mathlib.Core.List.{List, [], _∷_, _++_}
 use lib.Dec.{eqb, leb}
 use lib.ListN.{length, take, replicate}
-use lib.IntN.{ℤ, pos}
-use Rattle.rules.specs.Answers.{Kind, moreWanted, nowDone, accepted, Says, no, yes, noFamily, isFamily, kindOf, values}
+use lib.IntN.{pos}
+use Rattle.rules.specs.Answers.{aFrame, moreWanted, nowDone, accepted, Says, no, yes, noFamily, isFamily, kindOf, values}
 use Rattle.rules.specs.declared.Frame.{Frame}
 use Rattle.stream_rules.specs.Heads.{longest, head, atClose}
 use Rattle.stream_rules.specs.Rule.{Look, ready, waiting, look, Call, gives, wants, call}
@@ -57,24 +57,20 @@ abbrev pub holdsTooMuch : ℕ
 holdsTooMuch = 6
 
 -- What the answers say in the terms of document 01. A call gives a frame, wants more or is done. Its values: the bytes
--- taken; with a frame also its start, the bytes skipped, its length, and the frame's own values. A refusal has neither kind
--- nor values; what stands for them here is never said.
-abbrev pub kindFed : Answer → Kind
-kindFed (Ready r) = kindOf (r .frame)
-kindFed (More n) = moreWanted
-kindFed (Done n) = nowDone
-kindFed (Refused n) = nowDone
+-- taken; with a frame also its start, the bytes skipped, its length, and the frame's own values.
+abbrev pub saysFrame : ℕ → ℕ → ℕ → ℕ → Frame → Says
+saysFrame taken start skipped size f = yes (aFrame (kindOf f)) (pos taken ∷ pos start ∷ pos skipped ∷ pos size ∷ values f)
 
-abbrev pub valuesFed : Answer → List ℤ
-valuesFed (Ready r) = pos (r .taken) ∷ pos (r .start) ∷ pos (r .skipped) ∷ pos (r .length) ∷ values (r .frame)
-valuesFed (More n) = pos n ∷ []
-valuesFed (Done n) = pos n ∷ []
-valuesFed (Refused n) = []
+abbrev pub saysMore : ℕ → Says
+saysMore taken = yes moreWanted (pos taken ∷ [])
+
+abbrev pub saysDone : ℕ → Says
+saysDone taken = yes nowDone (pos taken ∷ [])
 
 abbrev pub saidToFeed : Answer → Says
-saidToFeed (Ready r) = yes (kindFed (Ready r)) (valuesFed (Ready r))
-saidToFeed (More n) = yes (kindFed (More n)) (valuesFed (More n))
-saidToFeed (Done n) = yes (kindFed (Done n)) (valuesFed (Done n))
+saidToFeed (Ready r) = saysFrame (r .taken) (r .start) (r .skipped) (r .length) (r .frame)
+saidToFeed (More n) = saysMore n
+saidToFeed (Done n) = saysDone n
 saidToFeed (Refused n) = no n
 
 abbrev pub saidToTurn : Outcome → Says
@@ -114,6 +110,15 @@ closedCall r (waiting skipped rest) = goOn r skipped [] (Done 0)
 abbrev pub refuse : Reader → ℕ → Fed
 refuse r n = record { reader = r; answer = Refused n }
 
+-- What such calls say, which are never refused.
+abbrev pub saysOpen : Reader → Call → Says
+saysOpen r (gives taken skipped n f kept) = saysFrame taken (wrap (r .at + skipped)) (wrap (r .skipped + skipped)) n f
+saysOpen r (wants taken skipped kept) = saysMore taken
+
+abbrev pub saysClosed : Reader → Look → Says
+saysClosed r (ready skipped n f behind) = saysFrame 0 (wrap (r .at + skipped)) (wrap (r .skipped + skipped)) n f
+saysClosed r (waiting skipped rest) = saysDone 0
+
 -- A call: refusal 1, then 6, then 5 where bytes are offered to a closed reader; the state is then as before.
 unfoldable pub fed : Reader → List ℕ → Fed
 fed r offered =
@@ -128,8 +133,9 @@ pub record Feeds (r : Reader) (offered : List ℕ) (f : Fed) : Type 0 where
   pub says : saidToFeed (f .answer)
       ≡ cond (not (isFamily (r .family))) (no noFamily)
       (cond (not (leb (r .count) (holds (r .family)))) (no holdsTooMuch)
-      (cond (not (eqb (r .closed) 0) && not (eqb (length offered) 0)) (no isClosed)
-      (yes (kindFed (fed r offered .answer)) (valuesFed (fed r offered .answer)))))
+      (cond (eqb (r .closed) 0) (saysOpen r (call (head (r .family)) (heldOf r) offered))
+      (cond (not (eqb (length offered) 0)) (no isClosed)
+      (saysClosed r (look (atClose (head (r .family))) (heldOf r))))))
 
 -- Closing: refusal 1, then 6. Closing twice is as once.
 unfoldable pub shut : Reader → Turned

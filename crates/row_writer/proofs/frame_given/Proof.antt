@@ -26,8 +26,8 @@ returns-2 c = held (sym (c .before .before .is-status-row .ensures) ∙ c .befor
 returns-3 : tie.Need-returns-3
 returns-3 c = dropped _ (sym (c .before .is-status-row .ensures) ∙ c .if3 .left) ∙ as-status _ _ _ (c .before .before .if2 .taken)
 
-cast-t8 : tie.Need-cast-t8
-cast-t8 c =
+cast-t10 : tie.Need-cast-t10
+cast-t10 c =
     let start = c .before .before .before in
     record { fits = omega (arith, command-byte (start .args .kind) (start .args .code) (start .pre) (c .if4 .taken)) }
 
@@ -53,7 +53,7 @@ frame-given-spec =
     status-from-requires
     returns-2
     returns-3
-    cast-t8
+    cast-t10
     returns-4
     sentence-given-requires
     returns-5

@@ -2,7 +2,7 @@
 -- Assumes nothing.
 use borrow.Author.Needs.{needs}
 use mathlib.Core.Path.{sym}
-use Rattle.row_writer.proofs.Answers.{same-frame, told, no-byte}
+use Rattle.row_writer.proofs.Answers.{same-given, told, no-byte}
 use Rattle.row_writer.proofs.write_given.Statement.{statement}
 use Rattle.row_writer.proofs.write_given.Tie as tie
 
@@ -12,8 +12,8 @@ returns c = no-byte _ _ _ (c .if1 .taken)
 frame-given-requires : tie.Need-frame-given-requires
 frame-given-requires c κs = search needs
 
-write-frame-requires : tie.Need-write-frame-requires
-write-frame-requires c κs = search needs
+write-what-requires : tie.Need-write-what-requires
+write-what-requires c κs = search needs
 
 tell-requires : tie.Need-tell-requires
 tell-requires c κs = search needs
@@ -24,7 +24,7 @@ same-length c = search needs
 returns-2 : tie.Need-returns-2
 returns-2 c =
     let w = c .before .before .before .before in
-    told (same-frame (sym (w .before .before .frame-given .ensures)) (w .write-frame .ensures)) (c .tell .ensures .0) (c .tell .ensures .1)
+    told (same-given (sym (w .before .before .frame-given .ensures)) (w .write-what .ensures)) (c .tell .ensures .0) (c .tell .ensures .1)
 
 pub write-given-spec : {M : Type 1} → statement M
 write-given-spec =
@@ -32,7 +32,7 @@ write-given-spec =
     (tie.spec
     returns
     frame-given-requires
-    write-frame-requires
+    write-what-requires
     tell-requires
     same-length
     returns-2)

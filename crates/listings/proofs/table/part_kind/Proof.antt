@@ -3,10 +3,11 @@
 use Prim.Native.Nat.{ℕ}
 use mathlib.Core.Path.{_≡_, sym, _∙_}
 use mathlib.Core.List.{List}
-use borrow.Author.Needs.{needs}
 use Rattle.rules.specs.declared.Reading.{Reading}
+use Rattle.rules.specs.declared.Reading.the-variants.{Good, Refused}
 use Rattle.lines.specs.Lines.{Types}
 use Rattle.listings.specs.Parts.{readingTexts}
+use borrow.Author.Needs.{needs}
 use Rattle.listings.proofs.table.part_kind.Statement.{statement}
 use Rattle.listings.proofs.table.part_kind.Tie as tie
 
@@ -19,6 +20,9 @@ read-frame-requires c κs = search needs
 
 enum-known-f : tie.Need-enum-known-f
 enum-known-f c = search needs
+
+fields-of-requires : tie.Need-fields-of-requires
+fields-of-requires c κs = search needs
 
 kind-requires : tie.Need-kind-requires
 kind-requires c κs = search needs
@@ -35,8 +39,8 @@ same-length c = search needs
 returns : tie.Need-returns
 returns c =
     let k = c .before .before in
-    let f = k .before .before .before in
-    shown (sym (f .before .before .read-frame .ensures .answers) ∙ f .f .given .1) (k .kind .ensures)
+    let f = k .before .before .before .before in
+    shown (sym (f .before .before .read-frame .ensures .answers) ∙ f .f .given .1) (rw (k .before .before .fields-of .ensures .kind) at (k .kind .ensures))
 
 same-length-2 : tie.Need-same-length-2
 same-length-2 c = search needs
@@ -53,6 +57,7 @@ part-kind-spec =
     (tie.spec
     read-frame-requires
     enum-known-f
+    fields-of-requires
     kind-requires
     enum-known-n
     refused-requires

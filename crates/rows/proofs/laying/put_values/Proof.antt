@@ -1,128 +1,87 @@
--- `rows::put_values` meets its contract: each kind of frame has its own numbers, and three kinds have none.
+-- `rows::put_values` meets its contract. The loop's invariant: the first i values are laid behind the first six numbers, and
+-- as many are lent as before. A turn's store is `lib.Seq`'s `paste-suc`.
 -- Assumes nothing.
-use mathlib.Core.Path.{sym, _∙_}
+use Prim.Native.Nat.{_-_, _≤_}
+use mathlib.Core.Path.{_≡_, refl, _∙_}
+use native.Mathlib.Numerals.{add-one}
+use native.Mathlib.Omega.{arith}
+use borrow.Author.Needs.{needs, sfits-of}
+use mir.Syntax.{w64}
+use mir.ValLaws.{toZ-ofZ}
 use denote.Ref.{now}
-use Rattle.rules.specs.Sentences.{numbers02, numbers03}
-use Rattle.rows.proofs.Laid.{none-laid}
-use borrow.Author.Needs.{needs}
+use lib.IntN.{pos}
+use lib.ListN.{length, getD, length-set}
+use lib.Seq.{paste, paste-zero, paste-suc, take-length}
+use Rattle.rows.specs.Rows.{laidAt}
 use Rattle.rows.proofs.laying.put_values.Statement.{statement}
 use Rattle.rows.proofs.laying.put_values.Tie as tie
 
-enum-known-frame : tie.Need-enum-known-frame
-enum-known-frame c = search needs
+abbrev Inv-loop : tie.InvT-loop
+Inv-loop numbers₀ values i₀ numbers i = (i ≤ length values) × (numbers ≡ paste numbers₀ 6 values i) × (length numbers ≡ length numbers₀)
 
-of-status-requires : tie.Need-of-status-requires
-of-status-requires c κs = search needs
+abbrev μ-loop : tie.MeasureT-loop
+μ-loop numbers₀ values i₀ numbers i = length values - i
 
-slice-aggregate-put-numbers : tie.Need-slice-aggregate-put-numbers
-slice-aggregate-put-numbers c = search needs
+loop-holds : tie.Need-loop-holds Inv-loop μ-loop
+loop-holds c = (omega arith, paste-zero (now (c .args .numbers)) 6 (now (c .args .values)), refl)
 
-put-numbers-requires : tie.Need-put-numbers-requires
-put-numbers-requires c κs = rw (c .before .of-status .ensures) (rw (c .before .before .before .before .frame .given .1) at (c .before .before .before .before .before .before .pre))
+mul-numbers : tie.Need-mul-numbers Inv-loop μ-loop
+mul-numbers c = search needs
 
-enum-known-frame-2 : tie.Need-enum-known-frame-2
-enum-known-frame-2 c = search needs
+shared-slice-copy-out-numbers : tie.Need-shared-slice-copy-out-numbers Inv-loop μ-loop
+shared-slice-copy-out-numbers c = search needs
 
-of-02-requires : tie.Need-of-02-requires
-of-02-requires c κs = search needs
+add-t8 : tie.Need-add-t8 Inv-loop μ-loop
+add-t8 c = search needs
 
-slice-aggregate-put-numbers-2 : tie.Need-slice-aggregate-put-numbers-2
-slice-aggregate-put-numbers-2 c = search needs
+mul-t9 : tie.Need-mul-t9 Inv-loop μ-loop
+mul-t9 c = search needs
 
-put-numbers-requires-2 : tie.Need-put-numbers-requires-2
-unfolding numbers02
-put-numbers-requires-2 c κs = rw (c .before .of-02 .ensures) (rw (c .before .before .before .before .frame2 .given .1) at (c .before .before .before .before .before .before .pre))
+slice-set-from-numbers : tie.Need-slice-set-from-numbers Inv-loop μ-loop
+slice-set-from-numbers c = search needs
 
-enum-known-frame-3 : tie.Need-enum-known-frame-3
-enum-known-frame-3 c = search needs
+add-i : tie.Need-add-i Inv-loop μ-loop
+add-i c = search needs
 
-put-03-requires : tie.Need-put-03-requires
-unfolding numbers03
-put-03-requires c κs = rw (c .before .before .frame3 .given .1) at (c .before .before .before .before .pre)
+loop-less : tie.Need-loop-less Inv-loop μ-loop
+loop-less c = search needs
 
-enum-known-frame-4 : tie.Need-enum-known-frame-4
-enum-known-frame-4 c = search needs
+loop-again : tie.Need-loop-again Inv-loop μ-loop
+loop-again c =
+    let a = c .before .before .before .args in
+    let l = c .before .before .loop in
+    let more = c .before .loop-test .taken in
+    let stored = paste-suc (now (a .numbers)) 6 (now (a .values)) (l .i) (pos 0) (omega arith) (omega arith) in (
+      omega arith,
+      rw (l .inv .1, add-one, toZ-ofZ w64 (getD (now (a .values)) (l .i) (pos 0)) (sfits-of (c .numbers .given))) stored,
+      length-set (l .numbers) _ _ ∙ l .inv .2,
+    )
 
-of-05-requires : tie.Need-of-05-requires
-of-05-requires c κs = search needs
-
-slice-aggregate-put-numbers-3 : tie.Need-slice-aggregate-put-numbers-3
-slice-aggregate-put-numbers-3 c = search needs
-
-put-numbers-requires-3 : tie.Need-put-numbers-requires-3
-put-numbers-requires-3 c κs = rw (c .before .of-05 .ensures) (rw (c .before .before .before .before .frame4 .given .1) at (c .before .before .before .before .before .before .pre))
-
-enum-told : tie.Need-enum-told
-enum-told c = search needs
-
-enum-told-2 : tie.Need-enum-told-2
-enum-told-2 c = search needs
-
-enum-told-3 : tie.Need-enum-told-3
-enum-told-3 c = search needs
-
-same-length : tie.Need-same-length
+same-length : tie.Need-same-length Inv-loop μ-loop
 same-length c = search needs
 
-returns : tie.Need-returns
-returns c = c .before .put-numbers .ensures ∙ rw (c .before .before .before .of-status .ensures, c .before .before .before .before .before .before .frame .given .1)
-
-same-length-2 : tie.Need-same-length-2
-same-length-2 c = search needs
-
-returns-2 : tie.Need-returns-2
-returns-2 c = c .before .put-numbers2 .ensures ∙ rw (c .before .before .before .of-02 .ensures, c .before .before .before .before .before .before .frame2 .given .1)
-
-same-length-3 : tie.Need-same-length-3
-same-length-3 c = search needs
-
-returns-3 : tie.Need-returns-3
-returns-3 c = c .before .put-03 .ensures ∙ rw (c .before .before .before .before .frame3 .given .1)
-
-same-length-4 : tie.Need-same-length-4
-same-length-4 c = search needs
-
-returns-4 : tie.Need-returns-4
-returns-4 c = c .before .put-numbers3 .ensures ∙ rw (c .before .before .before .of-05 .ensures, c .before .before .before .before .before .before .frame4 .given .1)
-
-returns-5 : tie.Need-returns-5
-returns-5 c = sym (rw (c .enum-told .given .1) (none-laid 6 (now (c .before .before .args .numbers))))
-
-returns-6 : tie.Need-returns-6
-returns-6 c = sym (rw (c .enum-told2 .given .1) (none-laid 6 (now (c .before .before .args .numbers))))
-
-returns-7 : tie.Need-returns-7
-returns-7 c = sym (rw (c .enum-told3 .given .1) (none-laid 6 (now (c .before .before .args .numbers))))
+returns : tie.Need-returns Inv-loop μ-loop
+unfolding laidAt
+returns c =
+    let a = c .before .before .args in
+    let l = c .before .loop in
+    let all : l .i ≡ length (now (a .values)) = omega arith in
+    l .inv .1 ∙ rw (all, take-length)
 
 pub put-values-spec : {M : Type 1} → statement M
 put-values-spec =
     tie.close
     (tie.spec
-    enum-known-frame
-    of-status-requires
-    slice-aggregate-put-numbers
-    put-numbers-requires
-    enum-known-frame-2
-    of-02-requires
-    slice-aggregate-put-numbers-2
-    put-numbers-requires-2
-    enum-known-frame-3
-    put-03-requires
-    enum-known-frame-4
-    of-05-requires
-    slice-aggregate-put-numbers-3
-    put-numbers-requires-3
-    enum-told
-    enum-told-2
-    enum-told-3
+    Inv-loop
+    μ-loop
+    loop-holds
+    mul-numbers
+    shared-slice-copy-out-numbers
+    add-t8
+    mul-t9
+    slice-set-from-numbers
+    add-i
+    loop-less
+    loop-again
     same-length
-    returns
-    same-length-2
-    returns-2
-    same-length-3
-    returns-3
-    same-length-4
-    returns-4
-    returns-5
-    returns-6
-    returns-7)
+    returns)

@@ -1,4 +1,4 @@
--- `show::records::temperature` meets its contract: its two branches are the two cases of its texts.
+-- `replays::signed` meets its contract: its two branches are the two cases of its texts.
 -- Assumes nothing.
 use mathlib.Core.Path.{_≡_, refl}
 use mathlib.Core.Bool.{true, false, true≢false}
@@ -8,22 +8,22 @@ use borrow.Author.Tests.{ltb-true}
 use borrow.Author.Needs.{needs}
 use lib.IntN.{ℤ, pos, negsuc, natAbs}
 use lib.Signed.{ltZ}
-use mir.Syntax.{w32}
+use mir.Syntax.{w64}
 use mir.ValLaws.{toZ-ofZ}
 use Rattle.rules.specs.Bytes.{ascii}
 use Rattle.lines.specs.Lines.{decimalText, spacedTexts}
 use Rattle.lines.proofs.Typed.{_then_}
-use Rattle.replays.specs.Texts.{temperatureTexts}
-use Rattle.replays.proofs.values.temperature.Statement.{statement}
-use Rattle.replays.proofs.values.temperature.Tie as tie
+use Rattle.replays.specs.Texts.{signedTexts}
+use Rattle.replays.proofs.values.signed.Statement.{statement}
+use Rattle.replays.proofs.values.signed.Tie as tie
 
-below : (z : ℤ) → ltZ z (pos 0) ≡ true → temperatureTexts z ≡ ascii " -" ∷ decimalText (natAbs z) ∷ []
-unfolding temperatureTexts
+below : (z : ℤ) → ltZ z (pos 0) ≡ true → signedTexts z ≡ ascii " -" ∷ decimalText (natAbs z) ∷ []
+unfolding signedTexts
 below (pos n) e = absurd (omega (arith, ltb-true n 0 e))
 below (negsuc n) e = refl
 
-not-below : (z : ℤ) → ltZ z (pos 0) ≡ false → temperatureTexts z ≡ spacedTexts (natAbs z)
-unfolding temperatureTexts
+not-below : (z : ℤ) → ltZ z (pos 0) ≡ false → signedTexts z ≡ spacedTexts (natAbs z)
+unfolding signedTexts
 not-below (pos n) e = refl
 not-below (negsuc n) e = absurd (true≢false e)
 
@@ -48,7 +48,7 @@ returns c =
     let t = n .before .before .before .before .before in
     let s = t .before .before .before in
     let a = s .before .before in
-    let read = toZ-ofZ w32 (a .args .z) (a .fits .z) in
+    let read = toZ-ofZ w64 (a .args .z) (a .fits .z) in
     rw (below (a .args .z) (rw read at (s .if1 .taken))) (t .text .ensures then rw (n .before .size .ensures, read) at (n .number .ensures))
 
 size-requires-2 : tie.Need-size-requires-2
@@ -65,11 +65,11 @@ returns-2 c =
     let n = c .before .before in
     let s = n .before .before .before in
     let a = s .before .before in
-    let read = toZ-ofZ w32 (a .args .z) (a .fits .z) in
+    let read = toZ-ofZ w64 (a .args .z) (a .fits .z) in
     rw (not-below (a .args .z) (rw read at (s .if1 .left))) (rw (n .before .size2 .ensures, read) at (n .spaced .ensures))
 
-pub temperature-spec : {M : Type 1} → statement M
-temperature-spec =
+pub signed-spec : {M : Type 1} → statement M
+signed-spec =
     tie.close
     (tie.spec
     slice-aggregate-text

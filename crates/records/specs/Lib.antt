@@ -1,0 +1,2 @@
+-- A frame's fields as they are handed on.
+pub mod Told

@@ -1,0 +1,107 @@
+-- `replays::field` meets its contract: the form picks the texts.
+-- Assumes nothing.
+use borrow.Author.Tests.{eq-eqb, ne-eqb}
+use mir.Syntax.{w64}
+use mir.ValLaws.{toZ-ofZ}
+use Rattle.lines.proofs.Typed.{_then_}
+use Rattle.replays.specs.Texts.{fieldTexts}
+use borrow.Author.Needs.{needs}
+use Rattle.replays.proofs.values.field.Statement.{statement}
+use Rattle.replays.proofs.values.field.Tie as tie
+
+signed-requires : tie.Need-signed-requires
+signed-requires c κs = search needs
+
+slice-aggregate-text : tie.Need-slice-aggregate-text
+slice-aggregate-text c = search needs
+
+text-requires : tie.Need-text-requires
+text-requires c κs = search needs
+
+same-length : tie.Need-same-length
+same-length c = search needs
+
+returns : tie.Need-returns
+unfolding fieldTexts
+returns c =
+    let a = c .before .before .before .before .before .before .before .before .before .before .before in
+    let t = c .before .before in
+    let s = t .before .before .before .before .before in
+    let read = toZ-ofZ w64 (a .args .v) (a .fits .v) in
+    rw (eq-eqb (a .args .form) 75 (c .before .before .before .before .before .before .before .before .before .if1 .taken)) (rw read at (s .signed .ensures) then t .text .ensures)
+
+letter-of-requires : tie.Need-letter-of-requires
+letter-of-requires c κs = search needs
+
+slice-aggregate-text-2 : tie.Need-slice-aggregate-text-2
+slice-aggregate-text-2 c = search needs
+
+text-requires-2 : tie.Need-text-requires-2
+text-requires-2 c κs = search needs
+
+same-length-2 : tie.Need-same-length-2
+same-length-2 c = search needs
+
+returns-2 : tie.Need-returns-2
+unfolding fieldTexts
+returns-2 c =
+    let a = c .before .before .before .before .before .before .before .before .before in
+    let t = c .before .before in
+    let read = toZ-ofZ w64 (a .args .v) (a .fits .v) in
+    rw (ne-eqb (a .args .form) 75 (c .before .before .before .before .before .before .before .if1 .left), eq-eqb (a .args .form) 76 (c .before .before .before .before .before .before .if2 .taken)) (rw (t .before .before .before .letter-of .ensures, read) at (t .text2 .ensures))
+
+letter-of-requires-2 : tie.Need-letter-of-requires-2
+letter-of-requires-2 c κs = search needs
+
+slice-aggregate-text-3 : tie.Need-slice-aggregate-text-3
+slice-aggregate-text-3 c = search needs
+
+text-requires-3 : tie.Need-text-requires-3
+text-requires-3 c κs = search needs
+
+same-length-3 : tie.Need-same-length-3
+same-length-3 c = search needs
+
+returns-3 : tie.Need-returns-3
+unfolding fieldTexts
+returns-3 c =
+    let a = c .before .before .before .before .before .before .before .before .before .before in
+    let t = c .before .before in
+    let read = toZ-ofZ w64 (a .args .v) (a .fits .v) in
+    rw (ne-eqb (a .args .form) 75 (c .before .before .before .before .before .before .before .before .if1 .left), ne-eqb (a .args .form) 76 (c .before .before .before .before .before .before .before .if2 .left), eq-eqb (a .args .form) 74 (c .before .before .before .before .before .before .if3 .taken)) (rw (t .before .before .before .letter-of2 .ensures, read) at (t .text3 .ensures))
+
+signed-requires-2 : tie.Need-signed-requires-2
+signed-requires-2 c κs = search needs
+
+same-length-4 : tie.Need-same-length-4
+same-length-4 c = search needs
+
+returns-4 : tie.Need-returns-4
+unfolding fieldTexts
+returns-4 c =
+    let a = c .before .before .before .before .before .before .before .before in
+    let read = toZ-ofZ w64 (a .args .v) (a .fits .v) in
+    rw (ne-eqb (a .args .form) 75 (c .before .before .before .before .before .before .if1 .left), ne-eqb (a .args .form) 76 (c .before .before .before .before .before .if2 .left), ne-eqb (a .args .form) 74 (c .before .before .before .before .if3 .left)) (rw read at (c .before .before .signed2 .ensures))
+
+pub field-spec : {M : Type 1} → statement M
+field-spec =
+    tie.close
+    (tie.spec
+    signed-requires
+    slice-aggregate-text
+    text-requires
+    same-length
+    returns
+    letter-of-requires
+    slice-aggregate-text-2
+    text-requires-2
+    same-length-2
+    returns-2
+    letter-of-requires-2
+    slice-aggregate-text-3
+    text-requires-3
+    same-length-3
+    returns-3
+    signed-requires-2
+    same-length-4
+    returns-4)
