@@ -3,14 +3,14 @@
 -- Assumes nothing.
 use Prim.Native.Nat.{ℕ, _+_, _^_, _≤_, _<_}
 use mathlib.Core.Path.{_≡_, refl, sym, ap, subst, _∙_}
-use mathlib.Core.Bool.{Bool, true, false, cond, not}
+use mathlib.Core.Bool.{true}
 use mathlib.Core.List.{List, []}
 use native.Mathlib.Nat.{zero-add, sub-zero}
 use native.Mathlib.Omega.{arith}
 use lib.IntN.{ℤ}
 use lib.ListN.{length, take, drop, length-take, drop-of-length-le}
 use Rattle.rules.specs.Bytes.{oneOf}
-use Rattle.rules.specs.Answers.{isFamily, said, no, noFamily, readOne}
+use Rattle.rules.specs.Answers.{isFamily, readOne}
 use Rattle.rules.specs.declared.Frame.{Frame}
 use Rattle.rules.specs.declared.Reading.the-variants.{Good}
 use Rattle.stream_rules.specs.Heads.{good, head}
@@ -18,7 +18,6 @@ use Rattle.stream_rules.specs.Rule.{ready, look, gives, call}
 use Rattle.stream_laws.specs.Settled.{reach}
 use Rattle.stream_rules.specs.Streams.{wrap, openCall, filled}
 use Rattle.stream_rules.specs.declared.Reader.{Reader}
-use Rattle.frame_laws.proofs.Saying.{reads}
 use Rattle.stream_laws.proofs.Heads.{complete, good-head}
 use Rattle.stream_laws.proofs.States.{open-call}
 use Rattle.stream_laws.proofs.Families.{facts}
@@ -30,17 +29,9 @@ use Rattle.row_stream.specs.FedRows.{FeedsRow}
 use Rattle.row_stream.specs.Short.{FrontRow}
 use Rattle.row_stream.proofs.Laid.{with-frame}
 
-module _ (family at skipped : ℕ) (held offered : List ℕ) (n : ℕ) (f : Frame) (there : n ≤ length offered) (read : readOne family (take n offered) ≡ Good f) where
+module _ (family at skipped : ℕ) (held offered : List ℕ) (n : ℕ) (f : Frame) (a-family : isFamily family ≡ true) (there : n ≤ length offered) (read : readOne family (take n offered) ≡ Good f) where
   abbrev reader : Reader
   reader = readerAt family 0 0 held at skipped
-
-  -- no other family has frames
-  a-family : isFamily family ≡ true
-  a-family = by-family (isFamily family) (rw read at (reads (sym read) .says))
-    where
-      by-family : (b : Bool) → said (Good f) ≡ cond (not b) (no noFamily) (said (Good f)) → b ≡ true
-      by-family true is = refl
-      by-family false is = let z : _≡_ {A = ℕ} 0 1 = cc in absurd (omega arith)
 
   here : head family offered ≡ good n f
   here = complete family offered n f there read
@@ -78,18 +69,18 @@ nothing-there family at skipped offered held numbers = record {
 }
 
 -- a frame of n bytes: the places are clear, and its row stands there
-pub frame-there : (family at skipped : ℕ) (held offered : List ℕ) (n : ℕ) (f : Frame) → n ≤ length offered → readOne family (take n offered) ≡ Good f
+pub frame-there : (family at skipped : ℕ) (held offered : List ℕ) (n : ℕ) (f : Frame) → isFamily family ≡ true → n ≤ length offered → readOne family (take n offered) ≡ Good f
     → (n ≡ 0 → ⊥) → (numbers after : List ℤ) (places : List ℕ) → 26 ≤ length numbers → at < 2 ^ 32 → skipped < 2 ^ 32
     → after ≡ front (row n at skipped n f) numbers → places ≡ filled []
     → FrontRow family at skipped offered held numbers n places after
-frame-there family at skipped held offered n f there read some numbers after places room low less stands clear =
+frame-there family at skipped held offered n f a-family there read some numbers after places room low less stands clear =
     let start : at ≡ wrap (at + 0) = omega arith in
     let passed : skipped ≡ wrap (skipped + 0) = omega arith in
     record {
       none = λ zero. absurd (some zero);
       handed = λ more.
           subst (λ (l : List ℕ). FeedsRow (readerAt family 0 0 held at skipped) offered numbers 0 (readerAt family 0 0 l (wrap (at + n)) 0) after) (sym clear)
-          (front-row family at skipped held offered n f there read numbers after room (stands ∙ (λ i. front (row n (start i) (passed i) n f) numbers)));
+          (front-row family at skipped held offered n f a-family there read numbers after room (stands ∙ (λ i. front (row n (start i) (passed i) n f) numbers)));
     }
 
 -- the families
@@ -100,3 +91,7 @@ family-1 = refl
 pub family-2 : isFamily 2 ≡ true
 unfolding oneOf
 family-2 = refl
+
+pub family-3 : isFamily 3 ≡ true
+unfolding oneOf
+family-3 = refl

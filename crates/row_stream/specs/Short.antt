@@ -12,9 +12,7 @@ use Rattle.stream_rules.specs.Streams.{placeCount, wrap}
 use Rattle.stream.specs.Places.{readerAt}
 use Rattle.held_bytes.specs.Held.{LentBytes}
 use Rattle.rows.specs.Rows.{longestRow, LentNumbers}
-use Rattle.row_stream.specs.FedRows.{FeedsRow, FeedsRowAt}
-use Rattle.row_stream.specs.declared.short_ways.Short as ShortType
-use Rattle.row_stream.specs.declared.short_ways.Short.the-variants.{Taken, NotTaken}
+use Rattle.row_stream.specs.FedRows.{FeedsRow}
 
 -- There is room for every row, and the held places are as many as their type says.
 pub record HasRoom (held : List ℕ) (numbers : List ℤ) : Type 0 where
@@ -42,14 +40,3 @@ pub record FrontRow (family at skipped : ℕ) (offered held : List ℕ) (numbers
 abbrev pub FrontLent : ℕ → ℕ → ℕ → LentBytes → LentBytes → LentNumbers → ℕ → Type 0
 FrontLent family at skipped held offered numbers n =
     FrontRow family at skipped (now (offered .entry)) (now (held .entry)) (now (numbers .entry)) n (now (held .exit)) (now (numbers .exit))
-
--- Where a short way was taken, it is the call on the reader of these parts; where none was, the held places and the numbers are as they
--- were.
-abbrev pub TriesShort : ℕ → ℕ → ℕ → List ℕ → ℕ → ℕ → List ℕ → List ℤ → ShortType.Short → List ℕ → List ℤ → Type 0
-TriesShort family closed count held at skipped offered numbers (Taken c) places left =
-    FeedsRowAt family closed count held at skipped offered numbers c places left
-TriesShort family closed count held at skipped offered numbers NotTaken places left = (places ≡ held) × (left ≡ numbers)
-
-abbrev pub TriesLent : ℕ → ℕ → ℕ → ℕ → ℕ → LentBytes → LentBytes → LentNumbers → ShortType.Short → Type 0
-TriesLent family closed count at skipped held offered numbers s =
-    TriesShort family closed count (now (held .entry)) at skipped (now (offered .entry)) (now (numbers .entry)) s (now (held .exit)) (now (numbers .exit))

@@ -3,8 +3,7 @@
 // which each serves only some calls, and without which every call is answered the same.
 mod short_ways;
 
-use crate::short_ways::Short;
-use crate::short_ways::try_short;
+use crate::short_ways::feed_short;
 use rows::LONGEST_ROW;
 use rows::lay_answer;
 use stream::feed_places;
@@ -22,7 +21,7 @@ pub struct Counts {
 
 // Any call, by its answer. Where it is refused, or the row has no room, all is as it was. (Every row has room
 // in 26 places; only with fewer are the held places kept, to be put back.)
-fn feed_any(
+pub(crate) fn feed_any(
     family: u8,
     closed: u8,
     count: u8,
@@ -74,7 +73,7 @@ pub(crate) fn left_so(number: u32, count: u8, at: u32, skipped: u32) -> Counts
 }
 
 // A call that offers bytes, and the row of its answer. Where it is refused, or the row has no room, all is as
-// it was. (Without `try_short` the call of `feed_any` is the whole of it.)
+// it was.
 pub fn feed_row(
     family: u8,
     closed: u8,
@@ -87,10 +86,5 @@ pub fn feed_row(
 ) -> Counts
     ensures { λ c. ⌜ FeedsLent family closed count at skipped held offered numbers c ⌝ }
 {
-    let short = try_short(family, closed, count, at, skipped, held, offered, numbers);
-    if let Short::Taken(counts) = short {
-        return left_so(counts.number, counts.count, counts.at, counts.skipped);
-    }
-    let any = feed_any(family, closed, count, at, skipped, held, offered, numbers);
-    left_so(any.number, any.count, any.at, any.skipped)
+    feed_short(family, closed, count, at, skipped, held, offered, numbers)
 }

@@ -4,14 +4,14 @@
 //   going       what is held has begun a report or a sentence, and what is offered only goes on with it
 //   few         the held places have room for what is offered; `row_search` finds the frame there and lays its row
 // To take them out: delete this file and the folder short_ways, here and in proofs/, the specs that name them
-// (Short, Going, RowSought) and what proofs/Lib.antt lists for them; in lib.rt, delete the lines that name
-// `short_ways` and the call of `try_short` with the test behind it.
+// (Short, Going, RowSought) and what proofs/Lib.antt lists for them; in lib.rt, let `feed_row` call `feed_any`.
 mod few;
 mod front;
 mod going;
 mod row_search;
 
 use crate::Counts;
+use crate::feed_any;
 use crate::left_so;
 use crate::short_ways::few::feed_few;
 use crate::short_ways::few::is_few;
@@ -24,13 +24,8 @@ use stream::advanced;
 use stream_rules::PLACES;
 ghost use mathlib.Core.Path.{_≡_};
 ghost use mathlib.Core.Bool.{true};
-ghost use Rattle.row_stream.specs.Short.{IsPlain, TriesLent};
-
-// A short way was taken, with what the call leaves; or none was, and nothing is changed.
-pub(crate) enum Short {
-    Taken(Counts),
-    NotTaken,
-}
+ghost use Rattle.row_stream.specs.FedRows.{FeedsLent};
+ghost use Rattle.row_stream.specs.Short.{IsPlain};
 
 // True only of a call on an open reader, with 133 places and room for every row.
 fn is_plain(closed: u8, places: usize, room: usize) -> bool
@@ -39,8 +34,8 @@ fn is_plain(closed: u8, places: usize, room: usize) -> bool
     (closed == 0) & (places == PLACES) & (LONGEST_ROW <= room)
 }
 
-// The short way that serves this call, if there is one.
-pub(crate) fn try_short(
+// The short way that serves this call, if there is one; else the general way.
+pub(crate) fn feed_short(
     family: u8,
     closed: u8,
     count: u8,
@@ -49,24 +44,26 @@ pub(crate) fn try_short(
     held: &mut [u8; PLACES],
     offered: &[u8],
     numbers: &mut [i64],
-) -> Short
-    ensures { λ s. ⌜ TriesLent family closed count at skipped held offered numbers s ⌝ }
+) -> Counts
+    ensures { λ c. ⌜ FeedsLent family closed count at skipped held offered numbers c ⌝ }
 {
     if !is_plain(closed, size(held), numbers.len()) {
-        return Short::NotTaken;
+        let any = feed_any(family, closed, count, at, skipped, held, offered, numbers);
+        return left_so(any.number, any.count, any.at, any.skipped);
     }
     if count == 0 {
         let n = front_frame(family, at, skipped, held, offered, numbers);
         if n != 0 {
-            return Short::Taken(left_so(0, 0, advanced(at, n), 0));
+            return left_so(0, 0, advanced(at, n), 0);
         }
     } else {
         if goes_on(family, count, held, offered) {
-            return Short::Taken(feed_on(family, count, at, skipped, held, offered, numbers));
+            return feed_on(family, count, at, skipped, held, offered, numbers);
         }
     }
     if is_few(family, count, offered.len()) {
-        return Short::Taken(feed_few(family, count, at, skipped, held, offered, numbers));
+        return feed_few(family, count, at, skipped, held, offered, numbers);
     }
-    Short::NotTaken
+    let any = feed_any(family, closed, count, at, skipped, held, offered, numbers);
+    left_so(any.number, any.count, any.at, any.skipped)
 }

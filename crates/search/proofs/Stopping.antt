@@ -161,8 +161,8 @@ no-family-stops family stranger bs from far r s = record {
     whole = λ some.
         let here = drop (r .at) bs in
         let h = s .found .whole some in (
-          bad-else family stranger here (λ w. headOf-decided (r .size) (readOne sentences (take (r .size) here)) (sym (h .0) ∙ w))
-              ∙ ap (headOf (r .size)) (sym (refuses family stranger (take (r .size) here))),
+          bad-else family stranger here (λ w. headOf-decided (r .length) (readOne sentences (take (r .length) here)) (sym (h .0) ∙ w))
+              ∙ ap (headOf (r .length)) (sym (refuses family stranger (take (r .length) here))),
           settled-same family stranger here ∙ h .1,
         );
   };

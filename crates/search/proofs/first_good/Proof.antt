@@ -119,7 +119,7 @@ not-here : (c : tie.Joined2 Inv-loop μ-loop)
 not-here c =
     let k = c .before .before .before in
     let found = k .loop .inv .1 in
-    let length = stop k .length in
+    let size = stop k .length in
     ⊎-elim
     (λ w.
     let read = ap (readOne (family k)) (sym (lent k)) ∙ sym (w .2 .ensures .answers) in

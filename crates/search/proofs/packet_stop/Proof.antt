@@ -113,7 +113,7 @@ module _ (c : tie.After-known-told Inv-loop μ-loop) where
   whole-turn = seen-turn examined
 
   abbrev size : ℕ
-  length = c .before .length .given .0 .0
+  size = c .before .length .given .0 .0
 
   to-read : WholeAt (family whole-turn) (bytes whole-turn) (at whole-turn) size
   to-read = seen-whole (family whole-turn) (here whole-turn) size (sym (saw examined) ∙ c .before .length .given .1)

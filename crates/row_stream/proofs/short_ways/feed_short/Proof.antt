@@ -1,7 +1,8 @@
--- `short_ways::try_short` meets its contract: each short way is the call on that reader, and where none is taken, nothing is changed.
+-- `row_stream::short_ways::feed_short` meets its contract: each short way is the call on that reader, and where none is taken, nothing is
+-- changed before the general way.
 -- Assumes nothing.
 use Prim.Native.Nat.{ℕ}
-use mathlib.Core.Path.{_≡_, sym, ap, _∙_}
+use mathlib.Core.Path.{_≡_, refl, sym, ap, _∙_}
 use mathlib.Core.List.{List}
 use mathlib.Core.Logic.{⊎-elim}
 use borrow.Author.Tests.{not-false}
@@ -12,8 +13,8 @@ use Rattle.row_stream.specs.FedRows.{FeedsRowAt}
 use Rattle.row_stream.specs.Short.{HasRoom, IsPlain}
 use Rattle.row_stream.specs.declared.Counts.{Counts}
 use borrow.Author.Needs.{needs}
-use Rattle.row_stream.proofs.short_ways.try_short.Statement.{statement}
-use Rattle.row_stream.proofs.short_ways.try_short.Tie as tie
+use Rattle.row_stream.proofs.short_ways.feed_short.Statement.{statement}
+use Rattle.row_stream.proofs.short_ways.feed_short.Tie as tie
 
 -- where the first test has been passed: the reader is open, there is room for every row, and the places are 133
 module _ (e : tie.Else1) where
@@ -41,8 +42,8 @@ same-room : {held places : List ℕ} {numbers row : List ℤ} → HasRoom held n
 same-room room same = record { row = omega (arith, room .row, ap length (same .1)); places = ap length (same .0) ∙ room .places }
 
 -- so what a call then does is what the call does
-module _ (family closed count at skipped : ℕ) (held places offered after : List ℕ) (numbers row left : List ℤ) (c : Counts) where
-  as-before : 0 ≡ closed → (places ≡ held) × (row ≡ numbers) → FeedsRowAt family 0 count places at skipped offered row c after left
+module _ (family closed shut count at skipped : ℕ) (held places offered after : List ℕ) (numbers row left : List ℤ) (c : Counts) where
+  as-before : shut ≡ closed → (places ≡ held) × (row ≡ numbers) → FeedsRowAt family shut count places at skipped offered row c after left
       → FeedsRowAt family closed count held at skipped offered numbers c after left
   as-before is same feeds = rw (is, same .0, same .1) at feeds
 
@@ -52,14 +53,8 @@ size-requires c κs = search needs
 is-plain-requires : tie.Need-is-plain-requires
 is-plain-requires c κs = search needs
 
-returns : tie.Need-returns
-returns c = search needs
-
-front-frame-requires : tie.Need-front-frame-requires
-front-frame-requires c κs = room (c .before .before .before)
-
-advanced-requires : tie.Need-advanced-requires
-advanced-requires c κs = search needs
+feed-any-requires : tie.Need-feed-any-requires
+feed-any-requires c κs = search needs
 
 left-so-requires : tie.Need-left-so-requires
 left-so-requires c κs = search needs
@@ -67,10 +62,25 @@ left-so-requires c κs = search needs
 same-length : tie.Need-same-length
 same-length c = search needs
 
+returns : tie.Need-returns
+returns c = rw (c .left-so .ensures) (c .before .before .feed-any .ensures)
+
+front-frame-requires : tie.Need-front-frame-requires
+front-frame-requires c κs = room (c .before .before .before)
+
+advanced-requires : tie.Need-advanced-requires
+advanced-requires c κs = search needs
+
+left-so-requires-2 : tie.Need-left-so-requires-2
+left-so-requires-2 c κs = search needs
+
+same-length-2 : tie.Need-same-length-2
+same-length-2 c = search needs
+
 returns-2 : tie.Need-returns-2
 returns-2 c = λ long.
     let then = c .before .before .before .before .before .before .before in
-    rw (c .left-so .ensures, told (then .before) .opened, then .if2 .taken, c .before .advanced .ensures)
+    rw (c .left-so2 .ensures, told (then .before) .opened, then .if2 .taken, c .before .advanced .ensures)
     (c .before .before .before .before .front-frame .ensures .handed (c .before .before .if3 .taken))
 
 goes-on-requires : tie.Need-goes-on-requires
@@ -82,8 +92,8 @@ feed-on-requires c κs =
     let e = c .before .before .before .before .before .before in
     (then .before .goes-on .ensures (then .if4 .taken) (places e), room e)
 
-same-length-2 : tie.Need-same-length-2
-same-length-2 c = search needs
+same-length-3 : tie.Need-same-length-3
+same-length-3 c = search needs
 
 returns-3 : tie.Need-returns-3
 returns-3 c = let e = c .before .before .before .before .before .before .before .before in rw (told e .opened) (c .before .feed-on .ensures)
@@ -97,39 +107,52 @@ feed-few-requires c κs =
     let j = then .before .before in
     (then .before .is-few .ensures (then .if5 .taken), same-room (room (j .before)) (unchanged j))
 
-same-length-3 : tie.Need-same-length-3
-same-length-3 c = c .numbers3 .given ∙ ap length (unchanged (c .before .before .before .before .before .before) .1)
+same-length-4 : tie.Need-same-length-4
+same-length-4 c = c .numbers4 .given ∙ ap length (unchanged (c .before .before .before .before .before .before) .1)
 
 returns-4 : tie.Need-returns-4
 returns-4 c =
     let j = c .before .before .before .before .before .before in
-    as-before _ _ _ _ _ _ _ _ _ _ _ _ _ (sym (told (j .before) .opened)) (unchanged j) (c .before .feed-few .ensures)
+    as-before _ _ 0 _ _ _ _ _ _ _ _ _ _ _ (sym (told (j .before) .opened)) (unchanged j) (c .before .feed-few .ensures)
 
-same-length-4 : tie.Need-same-length-4
-same-length-4 c = ap length (unchanged (c .before .before) .1)
+feed-any-requires-2 : tie.Need-feed-any-requires-2
+feed-any-requires-2 c κs = search needs
+
+left-so-requires-3 : tie.Need-left-so-requires-3
+left-so-requires-3 c κs = search needs
+
+same-length-5 : tie.Need-same-length-5
+same-length-5 c = c .before .numbers5 .given ∙ ap length (unchanged (c .before .before .before .before .before .before .before) .1)
 
 returns-5 : tie.Need-returns-5
-returns-5 c = unchanged (c .before .before)
+returns-5 c =
+    let j = c .before .before .before .before .before .before .before in
+    rw (c .left-so3 .ensures) (as-before _ _ _ _ _ _ _ _ _ _ _ _ _ _ refl (unchanged j) (c .before .before .feed-any2 .ensures))
 
-pub try-short-spec : {M : Type 1} → statement M
-try-short-spec =
+pub feed-short-spec : {M : Type 1} → statement M
+feed-short-spec =
     tie.close
     (tie.spec
     size-requires
     is-plain-requires
+    feed-any-requires
+    left-so-requires
+    same-length
     returns
     front-frame-requires
     advanced-requires
-    left-so-requires
-    same-length
+    left-so-requires-2
+    same-length-2
     returns-2
     goes-on-requires
     feed-on-requires
-    same-length-2
+    same-length-3
     returns-3
     is-few-requires
     feed-few-requires
-    same-length-3
-    returns-4
     same-length-4
+    returns-4
+    feed-any-requires-2
+    left-so-requires-3
+    same-length-5
     returns-5)
