@@ -17,6 +17,7 @@ ghost use mathlib.Core.Bool.{false};
 ghost use Prim.Native.Nat.{_+_, min, _≤_, _<_};
 ghost use lib.ListN.{length, drop};
 ghost use Rattle.rules.specs.Answers.{replies, sentences, commands};
+ghost use Rattle.rules.specs.Codes.{packetLength};
 ghost use Rattle.stream_rules.specs.Heads.{payloadRun};
 ghost use Rattle.captures.specs.Sizes.{sizeAt, Passes};
 
@@ -99,8 +100,8 @@ pub(crate) fn sentence_size(s: &[u8], n: usize) -> usize
     0
 }
 
-// The first start from a place on that has no mark in its count's place, or that fewer than six bytes are left
-// for: no count is a mark.
+// The first start from a place on that has no mark in its count's place, or that fewer bytes are left for than a
+// packet has: no count is a mark.
 fn past_marks(s: &[u8], from: usize) -> usize
     requires { ⌜ from ≤ length (now s) ⌝ }
     ensures { λ r. ⌜ Passes commands (now (s .entry)) from r ⌝ }
@@ -118,7 +119,7 @@ fn past_marks(s: &[u8], from: usize) -> usize
 // Behind a start with no command, the next at which one may stand. Where no mark stands in a count's place, none
 // starts in the three places behind the start.
 pub(crate) fn next_command(s: &[u8], from: usize) -> usize
-    requires { ⌜ (from + 6 ≤ length (now s)) × (0 ≡ sizeAt commands (drop from (now s))) ⌝ }
+    requires { ⌜ (from + packetLength ≤ length (now s)) × (0 ≡ sizeAt commands (drop from (now s))) ⌝ }
     ensures { λ r. ⌜ (from < r) × Passes commands (now (s .entry)) from r ⌝ }
 {
     if s[from + 3] != COMMAND_MARK {

@@ -6,6 +6,7 @@ use mathlib.Core.List.{List}
 use lib.IntN.{ℤ}
 use lib.ListN.{length}
 use denote.Ref.{now}
+use Rattle.rules.specs.Answers.{replies}
 use Rattle.stream_rules.specs.Streams.{wrap}
 use Rattle.spe.specs.Ends.{beginsReport}
 use Rattle.rows.specs.Rows.{moreRow, longestRow, row, rowWithout, front, LentNumbers}
@@ -17,7 +18,7 @@ use Rattle.search.specs.declared.Stop.{Stop}
 
 -- a report begins at the first byte, of family 1
 abbrev pub ReportBegun : ℕ → List ℕ → Type 0
-ReportBegun family bs = (family ≡ 1) × (beginsReport bs ≡ true)
+ReportBegun family bs = (family ≡ replies) × (beginsReport bs ≡ true)
 
 -- What was sought in so many bytes, of which the first were held: where it is, and its row. A call takes the bytes up to those
 -- that settled a frame and the starts before it, and not fewer than were held; or all of them.
