@@ -17,21 +17,24 @@ use borrow.Author.Needs.{needs}
 use Rattle.row_stream.proofs.feed_row.Statement.{statement}
 use Rattle.row_stream.proofs.feed_row.Tie as tie
 
-module _ (family closed count at skipped : ℕ) (held places offered : List ℕ) (numbers row : List ℤ) (s : ShortType.Short) (tried : TriesShort family closed count held at skipped offered numbers s places row) where
+module _ (family closed count at skipped : ℕ) (held places offered : List ℕ) (numbers row : List ℤ)
+    (s : ShortType.Short) (tried : TriesShort family closed count held at skipped offered numbers s places row) where
   taken : (c : Counts) → s ≡ Taken c → FeedsRowAt family closed count held at skipped offered numbers c places row
   taken c is = subst (λ (x : ShortType.Short). TriesShort family closed count held at skipped offered numbers x places row) is tried
 
   unchanged : OneOf (1 ∷ []) (tagOf the-type s) → (places ≡ held) × (row ≡ numbers)
   unchanged none = by s none tried
     where
-      by : (x : ShortType.Short) → OneOf (1 ∷ []) (tagOf the-type x) → TriesShort family closed count held at skipped offered numbers x places row
+      by : (x : ShortType.Short) → OneOf (1 ∷ []) (tagOf the-type x)
+          → TriesShort family closed count held at skipped offered numbers x places row
           → (places ≡ held) × (row ≡ numbers)
       by (Taken c) other is = absurd (miss (1 ∷ []) 0 tt other)
       by NotTaken other is = is
 
   -- so what the general way then does is what the call does
   general : OneOf (1 ∷ []) (tagOf the-type s) → (c : Counts) (after : List ℕ) (left : List ℤ)
-      → FeedsRowAt family closed count places at skipped offered row c after left → FeedsRowAt family closed count held at skipped offered numbers c after left
+      → FeedsRowAt family closed count places at skipped offered row c after left
+      → FeedsRowAt family closed count held at skipped offered numbers c after left
   general none c after left feeds = rw (unchanged none .0, unchanged none .1) at feeds
 
 try-short-requires : tie.Need-try-short-requires
