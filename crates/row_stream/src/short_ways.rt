@@ -1,11 +1,12 @@
 // Without this module everything is promised and answered as with it, only slower: the general way, `feed_any`,
 // alone is right. Here stand all the short ways, each for some calls only:
-//   front       a whole packet or report stands at the front of what is offered, and nothing is held
+//   front       a whole frame stands at the front of what is offered, and nothing is held
 //   going       what is held has begun a report or a sentence, and what is offered only goes on with it
 //   few         the held places have room for what is offered; `row_search` finds the frame there and lays its row
 // To take them out: delete this file and the folder short_ways, here and in proofs/, the specs that name them
-// (Short, Going, RowSought) and what proofs/Lib.antt lists for them; in lib.rt, delete the lines that name
-// `short_ways` and the call of `try_short` with the test behind it.
+// (Short, Going, RowSought) and the proofs that proofs/Lib.antt lists for them; in lib.rt, delete the lines that name
+// `short_ways` and the call of `try_short` with the test behind it. What `feed_row` promises is then what `feed_any`
+// does, and its proof says no more.
 mod few;
 mod front;
 mod going;
