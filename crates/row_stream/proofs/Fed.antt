@@ -20,7 +20,8 @@ use Rattle.rows.specs.Rows.{rowFed, Lays}
 use Rattle.rows.proofs.Lengths.{row-fits, room}
 use Rattle.row_stream.specs.FedRows.{FeedsRow}
 
-module _ (reader : Reader) (offered : List ℕ) (numbers : List ℤ) (f : Fed) (result : ℕ) (left : List ℤ) (feeds : Feeds reader offered f) (lays : Lays (saidToFeed (f .answer)) (rowFed (f .answer)) numbers result left) where
+module _ (reader : Reader) (offered : List ℕ) (numbers : List ℤ) (f : Fed) (result : ℕ) (left : List ℤ)
+    (feeds : Feeds reader offered f) (lays : Lays (saidToFeed (f .answer)) (rowFed (f .answer)) numbers result left) where
   row-of : (after : Reader) → after ≡ cond (eqb result 0) (f .reader) reader → FeedsRow reader offered numbers result after left
   row-of after e = record {
     lays = subst (λ (g : Fed). Lays (saidToFeed (g .answer)) (rowFed (g .answer)) numbers result left) (feeds .answers) lays;
@@ -41,7 +42,8 @@ module _ (reader : Reader) (offered : List ℕ) (numbers : List ℤ) (f : Fed) (
     where
       by-answer : (a : Answer) → f .answer ≡ a → f .reader ≡ reader
       by-answer (Ready r) is =
-          absurd (some (lays .answers ∙ rw is (room (rowFed (Ready r)) numbers (row-fits (r .taken) (r .start) (r .skipped) (r .length) (r .frame)) long)))
+          let short = row-fits (r .taken) (r .start) (r .skipped) (r .length) (r .frame) in
+          absurd (some (lays .answers ∙ rw is (room (rowFed (Ready r)) numbers short long)))
       by-answer (More n) is = absurd (some (lays .answers ∙ rw is (room (rowFed (More n)) numbers (lit≤ tt) long)))
       by-answer (Done n) is = absurd (some (lays .answers ∙ rw is (room (rowFed (Done n)) numbers (lit≤ tt) long)))
       by-answer (Refused n) is =

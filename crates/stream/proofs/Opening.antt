@@ -22,7 +22,8 @@ part-long : (work : List ℕ) (from to : ℕ) → from ≤ to → to ≤ length 
 part-long work from to order within = omega (arith, length-take (to - from) (drop from work), length-drop from work)
 
 -- Of a call that keeps a part of some bytes, which stands in the held places.
-module _ (family at skipped : ℕ) (work : List ℕ) (from to : ℕ) (order : from ≤ to) (within : to ≤ length work) (c : Call) (kept : List ℕ) (is : kept ≡ filled (part from (to - from) work)) where
+module _ (family at skipped : ℕ) (work : List ℕ) (from to : ℕ) (order : from ≤ to) (within : to ≤ length work)
+    (c : Call) (kept : List ℕ) (is : kept ≡ filled (part from (to - from) work)) where
   pub opens-waiting : (n k : ℕ) → c ≡ wants n k (part from (to - from) work) → Opens family at skipped c kept (wanting at skipped n k (to - from))
   opens-waiting n k says closed =
       (λ i. record {
@@ -60,7 +61,8 @@ goes-on family at skipped t s c left m opens closed = opens closed ∙ by-call c
     twice : (a b k : ℕ) → wrap (wrap (a + b) + k) ≡ wrap (a + (b + k))
     twice a b k = omega arith
 
-    by-call : (c : Call) → openCall (readerAt family closed 0 [] (wrap (at + s)) (wrap (skipped + s))) (later t c) ≡ openCall (readerAt family closed 0 [] at skipped) (after t s c)
+    by-call : (c : Call)
+        → openCall (readerAt family closed 0 [] (wrap (at + s)) (wrap (skipped + s))) (later t c) ≡ openCall (readerAt family closed 0 [] at skipped) (after t s c)
     by-call (wants n k kept) = λ i. record {
       reader = readerAt family closed (length kept) (filled kept) (twice at s k i) (twice skipped s k i);
       answer = More (t + n);

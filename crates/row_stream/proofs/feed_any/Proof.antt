@@ -30,17 +30,26 @@ same-length c = search needs
 
 returns : tie.Need-returns
 returns c = λ long.
-    let a = c .before .before .before .before .before .before .before .before .args in
-    laid (reader (c .before .before .before .before .before .before .before .before)) (a .offered .now) (a .numbers .now) _ _ _ (c .before .before .before .before .feed-places .ensures long) (c .before .before .lay-answer .ensures) (c .if2 .taken)
+    let answered = c .before .before in
+    let called = answered .before .before in
+    let start = called .before .before .before .before in
+    let a = start .args in
+    laid (reader start) (a .offered .now) (a .numbers .now) _ _ _ (called .feed-places .ensures long) (answered .lay-answer .ensures) (c .if2 .taken)
 
 same-length-2 : tie.Need-same-length-2
 same-length-2 c = search needs
 
 returns-2 : tie.Need-returns-2
 returns-2 c = λ long.
-    let a = c .before .before .before .before .before .before .before .before .before .args in
-    let kept : c .before .before .before .before .before .before .before .if1 .places ≡ a .held .now = ⊎-elim (λ w. w .2) (λ w. let z : _≡_ {A = ℕ} 0 1 = cc (w .0 .left, c .if3 .taken) in absurd (omega arith)) (c .before .before .before .before .before .before .before .if1 .came) in
-    not-laid (reader (c .before .before .before .before .before .before .before .before .before)) (a .offered .now) (a .numbers .now) _ _ _ (c .before .before .before .before .before .feed-places .ensures long) (c .before .before .before .lay-answer .ensures) (c .before .if2 .left) _
+    let some = c .before in
+    let answered = some .before .before in
+    let called = answered .before .before in
+    let tested = called .before .before in
+    let start = tested .before .before in
+    let a = start .args in
+    let kept : tested .if1 .places ≡ a .held .now =
+    ⊎-elim (λ w. w .2) (λ w. let z : _≡_ {A = ℕ} 0 1 = cc (w .0 .left, c .if3 .taken) in absurd (omega arith)) (tested .if1 .came) in
+    not-laid (reader start) (a .offered .now) (a .numbers .now) _ _ _ (called .feed-places .ensures long) (answered .lay-answer .ensures) (some .if2 .left) _
     (ap (λ (l : List ℕ). readerAt (a .family) (a .closed) (a .count) l (a .at) (a .skipped)) kept)
 
 same-length-3 : tie.Need-same-length-3
@@ -48,11 +57,16 @@ same-length-3 c = search needs
 
 returns-3 : tie.Need-returns-3
 returns-3 c = λ long.
-    let a = c .before .before .before .before .before .before .before .before .before .args in
-    let fed = c .before .before .before .before .before .feed-places .ensures long in
+    let answered = c .before .before .before in
+    let called = answered .before .before in
+    let start = called .before .before .before .before in
+    let a = start .args in
+    let fed = called .feed-places .ensures long in
+    let row = answered .lay-answer .ensures in
     let some = c .before .if2 .left in
-    let was = as-it-was (reader (c .before .before .before .before .before .before .before .before .before)) (a .offered .now) (a .numbers .now) _ _ _ fed (c .before .before .before .lay-answer .ensures) some (ltb-false (length (a .numbers .now)) 26 (c .if3 .left)) in
-    not-laid (reader (c .before .before .before .before .before .before .before .before .before)) (a .offered .now) (a .numbers .now) _ _ _ fed (c .before .before .before .lay-answer .ensures) some _
+    let room = ltb-false (length (a .numbers .now)) 26 (c .if3 .left) in
+    let was = as-it-was (reader start) (a .offered .now) (a .numbers .now) _ _ _ fed row some room in
+    not-laid (reader start) (a .offered .now) (a .numbers .now) _ _ _ fed row some _
     (ap (λ (r : Reader). readerAt (a .family) (a .closed) (a .count) (r .held) (a .at) (a .skipped)) was)
 
 pub feed-any-spec : {M : Type 1} → statement M

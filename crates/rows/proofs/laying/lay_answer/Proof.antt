@@ -51,4 +51,21 @@ returns-4 : tie.Need-returns-4
 returns-4 c = rw (c .before .answer4 .given .1) (lays-none _)
 
 pub lay-answer-spec : {M : Type 1} → statement M
-lay-answer-spec = tie.close (tie.spec enum-known-answer lay-frame-requires enum-known-answer-2 lay-head-requires enum-known-answer-3 lay-head-requires-2 enum-known-answer-4 cast-result same-length returns same-length-2 returns-2 same-length-3 returns-3 returns-4)
+lay-answer-spec =
+    tie.close
+    (tie.spec
+    enum-known-answer
+    lay-frame-requires
+    enum-known-answer-2
+    lay-head-requires
+    enum-known-answer-3
+    lay-head-requires-2
+    enum-known-answer-4
+    cast-result
+    same-length
+    returns
+    same-length-2
+    returns-2
+    same-length-3
+    returns-3
+    returns-4)

@@ -22,7 +22,8 @@ abbrev from-waiting : tie.After-from → tie.Start
 from-waiting c = c .before .before .before .before
 
 cuts : (c : tie.After-from)
-    → let a = from-waiting c .args in Cuts (a .family) (a .work .now) (a .count) (c .from .given .0 .0) (length (a .work .now)) (wants (length (a .work .now) - a .count) (c .from .given .0 .0))
+    → let a = from-waiting c .args in let from = c .from .given .0 .0 in let all = length (a .work .now) in
+    Cuts (a .family) (a .work .now) (a .count) from all (wants (all - a .count) from)
 cuts c =
     let s = from-waiting c in
     cut-waiting (s .args .family) (s .args .work .now) (s .args .count) (s .pre .there) (s .pre .low) _ (sym (c .before .before .seek .ensures) ∙ c .from .given .1)
@@ -45,7 +46,8 @@ abbrev hit : tie.After-hit → Hit
 hit c = c .hit .given .0 .0
 
 cuts-hit : (c : tie.After-hit) (to : ℕ) → to ≡ max (hit c .reach) (from-hit c .args .count)
-    → let a = from-hit c .args in Cuts (a .family) (a .work .now) (a .count) (hit c .start + hit c .length) to (gives (to - a .count) (hit c .start) (hit c .length) (hit c .frame))
+    → let a = from-hit c .args in let h = hit c in
+    Cuts (a .family) (a .work .now) (a .count) (h .start + h .length) to (gives (to - a .count) (h .start) (h .length) (h .frame))
 cuts-hit c to is =
     let s = from-hit c in
     cut-ready (s .args .family) (s .args .work .now) (s .args .count) (s .pre .there) (s .pre .low) (hit c) to (sym (c .before .before .seek .ensures) ∙ c .hit .given .1) is

@@ -11,6 +11,7 @@ use Rattle.rules.specs.Answers.{isFamily}
 use Rattle.stream_rules.specs.Heads.{head}
 use Rattle.stream_rules.specs.Streams.{heldOf, holds}
 use Rattle.stream_rules.specs.declared.Outcome.the-variants.{Accepted}
+use Rattle.stream_rules.specs.declared.Reader.{Reader}
 use Rattle.stream_laws.proofs.Facts.{top-above}
 use Rattle.stream_laws.proofs.Families.{facts}
 use Rattle.stream_laws.proofs.States.{longest-fits, shut-1, shut-6, shut-call}
@@ -29,7 +30,11 @@ is-family-requires c κs = search needs
 a-family : (c : tie.Else1) → isFamily (c .before .before .args .r .family) ≡ true
 a-family c = sym (c .before .is-family .ensures) ∙ not-false _ (c .if1 .left)
 
-room : (c : tie.Else2) → c .before .before .before .before .before .args .r .count ≤ holds (c .before .before .before .before .before .args .r .family)
+-- the reader, from behind the second test
+abbrev given : tie.After-longest-frame → Reader
+given c = c .before .before .before .before .args .r
+
+room : (c : tie.Else2) → given (c .before) .count ≤ holds (given (c .before) .family)
 room c = omega (arith, c .if2 .left, c .before .longest-frame .ensures)
 
 returns : tie.Need-returns
@@ -42,7 +47,11 @@ longest-frame-requires : tie.Need-longest-frame-requires
 longest-frame-requires c κs = search needs
 
 returns-2 : tie.Need-returns-2
-returns-2 c = shuts (sym (shut-6 (c .before .before .before .before .before .args .r) (a-family (c .before .before .before)) (omega (arith, c .if2 .taken, c .before .longest-frame .ensures, top-above (head (c .before .before .before .before .before .args .r .family)) _ (facts (c .before .before .before .before .before .args .r .family))))))
+returns-2 c =
+    let tested = c .before in
+    let r = given tested in
+    let top = top-above (head (r .family)) _ (facts (r .family)) in
+    shuts (sym (shut-6 r (a-family (tested .before .before)) (omega (arith, c .if2 .taken, tested .longest-frame .ensures, top))))
 
 keep-part-requires : tie.Need-keep-part-requires
 keep-part-requires c κs = search needs
@@ -52,7 +61,8 @@ returns-3 c =
     let start = c .before .before .before .before .before .before .before .before in
     let r = start .args .r in
     let places = long start in
-    let size : length (heldOf r) ≡ r .count = length-take (r .count) (r .held) ∙ omega (arith, room (c .before .before .before), longest-fits (r .family), places) in
+    let passed = c .before .before .before in
+    let size : length (heldOf r) ≡ r .count = length-take (r .count) (r .held) ∙ omega (arith, room passed, longest-fits (r .family), places) in
     shuts ((λ i. record {
       reader = record {
         family = r .family;
@@ -64,7 +74,7 @@ returns-3 c =
       };
       outcome = Accepted;
     })
-    ∙ sym (shut-call r (a-family (c .before .before .before .before .before .before)) (room (c .before .before .before))))
+    ∙ sym (shut-call r (a-family (passed .before .before .before)) (room passed)))
 
 pub close-spec : {M : Type 1} → statement M
 close-spec =
