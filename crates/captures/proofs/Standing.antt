@@ -11,7 +11,7 @@ use borrow.Author.Tests.{lt-ltb}
 use lib.Dec.{leb, ltb}
 use lib.ListN.{length, drop, length-take, length-drop}
 use Rattle.rules.specs.Bytes.{part}
-use Rattle.rules.specs.Answers.{isFamily}
+use Rattle.rules.specs.Answers.{isFamily, kindOf}
 use Rattle.stream_rules.specs.Lister.{fits}
 use Rattle.texts.specs.Parts.{placeIn}
 use Rattle.search.specs.Sought.{firstFrom}
@@ -76,7 +76,7 @@ module _ (family : ℕ) (bs : List ℕ) (place : ℕ) (reports : Bool) where
       (omega (arith, n .place, later))
       (n .there)
       (more (start + size) (omega (arith, n .place, later)) (omega (arith, n .place, n .some)))
-      (not reports || isReport f))
+      (not reports || isReport (kindOf f)))
 
   from-there : (fuel at : ℕ) → place ≤ at → length bs < at + fuel → Spanned bs place (firstWanted reports place (left family bs at))
   from-there zero at later h = none-left at (at-end family bs at (omega arith))

@@ -4,9 +4,9 @@ use mathlib.Core.Bool.{Bool, true, false, _&&_, _||_, cond, not}
 use mathlib.Core.List.{List, [], _∷_}
 use lib.Dec.{leb}
 use lib.ListN.{length, drop}
-use Rattle.rules.specs.Answers.{isFamily}
-use Rattle.rules.specs.declared.Frame.{Frame}
-use Rattle.rules.specs.declared.Frame.the-variants.{Ack, Status, Command, Apa02, Apa03, Apa05, Other}
+use Rattle.rules.specs.Answers.{isFamily, kindOf}
+use Rattle.rules.specs.declared.Kind.{Kind}
+use Rattle.rules.specs.declared.Kind.the-variants.{OfAck, OfStatus, OfCommand, OfSentence}
 use Rattle.stream_rules.specs.Heads.{head}
 use Rattle.stream_rules.specs.Rule.{Found, rule}
 use Rattle.stream_rules.specs.Lister.{fits}
@@ -16,14 +16,11 @@ use Rattle.captures.specs.declared.spans.Span.{Span}
 abbrev pub framesFrom : ℕ → List ℕ → ℕ → List Found
 framesFrom family capture place = rule (head family) 0 place 0 (drop place capture)
 
-abbrev pub isReport : Frame → Bool
-isReport (Ack c) = false
-isReport (Status s) = true
-isReport (Command c) = false
-isReport (Apa02 r) = false
-isReport (Apa03 r) = false
-isReport (Apa05 r) = false
-isReport (Other n) = false
+abbrev pub isReport : Kind → Bool
+isReport (OfAck c) = false
+isReport OfStatus = true
+isReport (OfCommand c) = false
+isReport (OfSentence n) = false
 
 -- A frame is given with the place just behind it; where none is left, the part is empty and the place unchanged.
 abbrev pub given : Found → Span
@@ -35,7 +32,7 @@ nothing place = record { start = 0; size = 0; behind = place }
 -- The first of the frames; when only reports are wanted, a frame that is no status report is passed over.
 unfoldable pub firstWanted : Bool → ℕ → List Found → Span
 firstWanted onlyReports place [] = nothing place
-firstWanted onlyReports place (f ∷ fs) = cond (not onlyReports || isReport (f .frame)) (given f) (firstWanted onlyReports place fs)
+firstWanted onlyReports place (f ∷ fs) = cond (not onlyReports || isReport (kindOf (f .frame))) (given f) (firstWanted onlyReports place fs)
 
 -- From a place on; also nothing where the place is beyond the end, or refusal 1 or 7 would apply.
 unfoldable pub nextIn : ℕ → List ℕ → ℕ → Bool → Span

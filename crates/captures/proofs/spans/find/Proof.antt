@@ -12,7 +12,7 @@ use denote.Enum.Declared.{tagOf}
 use borrow.Author.Tests.{not-true, not-false, le-leb, lt-leb, leb-false}
 use lib.Dec.{leb}
 use lib.ListN.{length}
-use Rattle.rules.specs.Answers.{isFamily}
+use Rattle.rules.specs.Answers.{isFamily, kindOf}
 use Rattle.rules.specs.declared.Frame.{Frame}
 use Rattle.rules.specs.declared.Frame.the-variants.{Ack, Status, Command, Apa02, Apa03, Apa05, Other}
 use Rattle.rules.proofs.Frame.{the-type}
@@ -24,7 +24,7 @@ use Rattle.captures.proofs.spans.find.Statement.{statement}
 use Rattle.captures.proofs.spans.find.Tie as tie
 
 -- a frame that is no status report
-not-report : (f : Frame) → OneOf (0 ∷ 2 ∷ 3 ∷ 4 ∷ 5 ∷ 6 ∷ []) (tagOf the-type f) → isReport f ≡ false
+not-report : (f : Frame) → OneOf (0 ∷ 2 ∷ 3 ∷ 4 ∷ 5 ∷ 6 ∷ []) (tagOf the-type f) → isReport (kindOf f) ≡ false
 not-report (Ack c) keys = refl
 not-report (Status s) keys = absurd (miss (0 ∷ 2 ∷ 3 ∷ 4 ∷ 5 ∷ 6 ∷ []) 1 tt keys)
 not-report (Command c) keys = refl
@@ -68,17 +68,17 @@ module _ (family : ℕ) (bs : List ℕ) (place : ℕ) (reports : Bool) where
     abbrev it : Span
     it = record { start = start; size = size; behind = start + size }
 
-    opened : nextIn family bs place reports ≡ cond (not reports || isReport f) it on
+    opened : nextIn family bs place reports ≡ cond (not reports || isReport (kindOf f)) it on
     unfolding firstWanted
     opened = inv ∙ ap (firstWanted reports place) (n .lists)
 
     wanted-any : reports ≡ false → it ≡ nextIn family bs place reports
-    wanted-any e = (λ i. cond (not (sym e i) || isReport f) it on) ∙ sym opened
+    wanted-any e = (λ i. cond (not (sym e i) || isReport (kindOf f)) it on) ∙ sym opened
 
-    wanted-report : isReport f ≡ true → it ≡ nextIn family bs place reports
+    wanted-report : isReport (kindOf f) ≡ true → it ≡ nextIn family bs place reports
     wanted-report e = (λ i. cond (sym (or-true (not reports)) i) it on) ∙ (λ i. cond (not reports || sym e i) it on) ∙ sym opened
 
-    passed-over : reports ≡ true → isReport f ≡ false → nextIn family bs place reports ≡ on
+    passed-over : reports ≡ true → isReport (kindOf f) ≡ false → nextIn family bs place reports ≡ on
     passed-over e d = opened ∙ (λ i. cond (not (e i) || d i) it on)
 
 abbrev Inv-loop : tie.InvT-loop
@@ -171,9 +171,15 @@ loop-again c =
 
 returns-4 : tie.Need-returns-4 Inv-loop μ-loop
 returns-4 c =
+<<<<<<< HEAD
     let report = c .before .before .before .before in
     let k = turn report in
     wanted-report (family k) (capture k) (place k) (reports k) (at k) _ _ _ (k .loop .inv) (found report) (ap isReport (c .enum-told2 .given .1))
+=======
+    let a = c .before .before .before .before .before .before .before .before .before .before .before .before .before .args in
+    let loop = c .before .before .before .before .before .before .before .before .loop in
+    wanted-report (a .family) (a .capture .now) (a .place) (a .reports) (loop .at) _ _ _ (loop .inv) (found (c .before .before .before .before)) (ap (λ (k : Frame). isReport (kindOf k)) (c .enum-told2 .given .1))
+>>>>>>> 6f99155 (Whether a frame is a report is said by its kind)
 
 returns-5 : tie.Need-returns-5 Inv-loop μ-loop
 returns-5 c =
