@@ -140,7 +140,7 @@ pub extern "C" fn amp_list(
 ) -> u32
     ensures { λ r. ⌜ ListsStarts family (now (capture .entry)) (now (starts .entry)) (now (count .entry)) r (now (starts .exit)) (now (count .exit)) ⌝ }
 {
-    match captures::list_frames(family_byte(family), capture, starts) {
+    match lister::list_frames(family_byte(family), capture, starts) {
         Listed::Count(n) => {
             *count = n;
             0
@@ -173,7 +173,7 @@ pub extern "C" fn amp_next(
 pub extern "C" fn amp_stamp_order(a: u32, b: u32) -> u32
     ensures { λ r. ⌜ r ≡ orderNumber (order a b) ⌝ }
 {
-    match stream::stamp_order(a, b) {
+    match starts::stamp_order(a, b) {
         Order::Earlier => 1,
         Order::Later => 2,
         Order::Equal => 3,

@@ -3,5 +3,3 @@
 -- `Sizes` has how long a good frame at the head is, and which starts a walk passes over, and `Fills` what the walks that fill the list give.
 pub mod Captures
 pub mod Finds
-pub mod Fills
-pub mod Sizes

@@ -1,13 +1,10 @@
-// Recorded captures: the lister, the next frame from a place on, and the capture reader.
-mod lister;
+// Recorded captures: the next frame from a place on, and the capture reader. `lister` lists all frames.
 mod spans;
-mod steps;
 mod walks;
 
-pub use lister::list_frames;
-pub use lister::next_frame;
 pub use spans::Span;
 pub use spans::find;
+pub use spans::next_frame;
 pub use walks::CaptureReader;
 pub use walks::next;
 pub use walks::next_at;

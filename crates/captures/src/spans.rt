@@ -5,7 +5,9 @@ use search::First;
 use search::first_good;
 use starts::is_family;
 use stream_rules::LONGEST_CAPTURE;
+use texts::text;
 ghost use mathlib.Core.Path.{_≡_};
+ghost use Rattle.stream_rules.specs.Lister.{NextFrame};
 ghost use Rattle.captures.specs.Finds.{nextIn};
 
 // Where a frame stands in a capture, and the place reached: just behind it. The size is 0 where there
@@ -50,4 +52,12 @@ pub fn find(family: u8, capture: &[u8], place: usize, reports: bool) -> Span
         };
     }
     none
+}
+
+// The earliest good frame from a place on, as a part of the capture, or the empty part.
+pub fn next_frame(family: u8, capture: &[u8], place: usize) -> &[u8]
+    ensures { λ r. ⌜ NextFrame family (capture .entry) place r ⌝ }
+{
+    let span = find(family, capture, place, false);
+    text(capture, span.start, span.size)
 }

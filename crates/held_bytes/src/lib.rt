@@ -1,5 +1,11 @@
 // The held places of a stream reader, which are lent and altered where they stand: bytes laid behind those held,
-// and a part of them kept, with zeros behind it.
+// and a part of them kept, with zeros behind it. The modules have what a call does with them and with the bytes offered.
+mod feeding;
+mod moves;
+mod pieces;
+
+pub use feeding::feed_places;
+pub use moves::Moved;
 use pens::put_bytes;
 use stream_rules::PLACES;
 use texts::text;

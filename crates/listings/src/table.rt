@@ -1,8 +1,8 @@
 // The listing of a capture: where each frame starts, its length, the bytes skipped before it, and its
 // kind; then how many frames and bytes there are, and how many bytes are in no frame.
 use crate::kinds;
-use captures::list_frames;
 use captures::next_frame;
+use lister::list_frames;
 use records::fields_of;
 use rules::Reading;
 use std::num::wrapping_add_usize;

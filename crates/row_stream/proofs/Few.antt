@@ -26,12 +26,12 @@ use Rattle.search.specs.declared.Sought.{Sought}
 use Rattle.search.specs.declared.Sought.the-variants.{Ready, Waiting}
 use Rattle.search.specs.declared.Stop.{Stop}
 use Rattle.rows.specs.Rows.{rowWithout, front}
-use Rattle.stream.specs.Places.{readerAt, fedAt}
-use Rattle.stream.specs.declared.moves.Moved.{Moved}
-use Rattle.stream.specs.Moves.{callOn, Opens}
-use Rattle.stream.proofs.Cutting.{finds, cut-waiting, cut-ready}
-use Rattle.stream.proofs.Opening.{opens-waiting, opens-ready, open-same}
-use Rattle.stream.proofs.Onward.{call-same}
+use Rattle.held_bytes.specs.Places.{readerAt, fedAt}
+use Rattle.held_bytes.specs.declared.moves.Moved.{Moved}
+use Rattle.held_bytes.specs.Moves.{callOn, Opens}
+use Rattle.held_bytes.proofs.Cutting.{finds, cut-waiting, cut-ready}
+use Rattle.held_bytes.proofs.Opening.{opens-waiting, opens-ready, open-same}
+use Rattle.held_bytes.proofs.Onward.{call-same}
 use Rattle.row_stream.specs.FedRows.{FeedsRow}
 use Rattle.row_stream.proofs.Laid.{with-frame, wanting}
 

@@ -24,7 +24,7 @@ use Rattle.stream_laws.proofs.Families.{facts}
 use Rattle.stream_laws.proofs.Starts.{look-at-good}
 use Rattle.stream_laws.proofs.Jump.{jump}
 use Rattle.rows.specs.Rows.{row, front}
-use Rattle.stream.specs.Places.{readerAt}
+use Rattle.held_bytes.specs.Places.{readerAt}
 use Rattle.row_stream.specs.FedRows.{FeedsRow}
 use Rattle.row_stream.specs.Short.{FrontRow}
 use Rattle.row_stream.proofs.Laid.{with-frame}

@@ -6,7 +6,7 @@ use mathlib.Core.List.{List}
 use lib.IntN.{ℤ}
 use lib.ListN.{length}
 use Rattle.stream_rules.specs.declared.Reader.{Reader}
-use Rattle.stream.specs.Places.{readerAt}
+use Rattle.held_bytes.specs.Places.{readerAt}
 use Rattle.rows.proofs.Single.{lays-single}
 use Rattle.row_stream.specs.FedRows.{FeedsRow, FeedsRowAt}
 use Rattle.row_stream.specs.declared.Counts.{Counts}

@@ -9,7 +9,7 @@ use lib.ListN.{length}
 use denote.Ref.{now}
 use Rattle.stream_rules.specs.Streams.{placeCount, fed, saidToFeed}
 use Rattle.stream_rules.specs.declared.Reader.{Reader}
-use Rattle.stream.specs.Places.{readerAt}
+use Rattle.held_bytes.specs.Places.{readerAt}
 use Rattle.held_bytes.specs.Held.{LentBytes}
 use Rattle.rows.specs.Rows.{rowFed, Lays, LentNumbers}
 use Rattle.row_stream.specs.declared.Counts.{Counts}

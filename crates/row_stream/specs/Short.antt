@@ -9,7 +9,7 @@ use denote.Ref.{now}
 use Rattle.rules.specs.Answers.{isFamily}
 use Rattle.stream_rules.specs.Heads.{longest}
 use Rattle.stream_rules.specs.Streams.{placeCount, wrap}
-use Rattle.stream.specs.Places.{readerAt}
+use Rattle.held_bytes.specs.Places.{readerAt}
 use Rattle.held_bytes.specs.Held.{LentBytes}
 use Rattle.rows.specs.Rows.{longestRow, LentNumbers}
 use Rattle.row_stream.specs.FedRows.{FeedsRow}

@@ -4,9 +4,9 @@
 mod short_ways;
 
 use crate::short_ways::feed_short;
+use held_bytes::feed_places;
 use rows::LONGEST_ROW;
 use rows::lay_answer;
-use stream::feed_places;
 use stream_rules::PLACES;
 ghost use mathlib.Core.Path.{_≡_};
 ghost use Rattle.row_stream.specs.FedRows.{FeedsLent};

@@ -20,7 +20,7 @@ use crate::short_ways::going::feed_on;
 use crate::short_ways::going::goes_on;
 use held_bytes::size;
 use rows::LONGEST_ROW;
-use stream::advanced;
+use starts::advanced;
 use stream_rules::PLACES;
 ghost use mathlib.Core.Path.{_≡_};
 ghost use mathlib.Core.Bool.{true};

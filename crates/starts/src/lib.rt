@@ -1,7 +1,9 @@
-// What a start is known by: the number of its family, its mark, and what its first bytes tell before a frame is read.
+// Starts: what one is known by, which is the number of its family, its mark, and what its first bytes tell before a frame
+// is read; and stamps, the places of starts in a stream.
 mod families;
 mod heads;
 mod marks;
+mod stamps;
 
 pub use families::is_family;
 pub use families::is_spe;
@@ -12,3 +14,5 @@ pub use marks::is_payload;
 pub use marks::longest_frame;
 pub use marks::mark_of;
 pub use marks::payload_bytes;
+pub use stamps::advanced;
+pub use stamps::stamp_order;

@@ -1,15 +1,7 @@
--- `Cutting` has what a search of the held bytes and a piece says of the call, `Opening` what is left of a reader's parts by such a
--- call, `Onward` how a call goes on behind a piece, `Closing` what a closed reader hands out, and `Single` that the promise of a call on a reader's parts leaves
--- one result.
 -- `Behind` has what the functions on a lent reader need of a reader behind a `&mut`: it is opened, and closed at another
 -- reader. `Parts` has such a reader part by part. `FedBehind` has the call of `stream::feed` on such a reader. `Lending` has
 -- how a local that holds a plain struct is lent by `&mut` for one call, and taken back after it, and `Fields` the same of
 -- one field of a struct.
-pub mod Cutting
-pub mod Onward
-pub mod Opening
-pub mod Closing
-pub mod Single
 pub mod Behind
 pub mod Parts
 pub mod FedBehind

@@ -1,6 +1,6 @@
 // The stream reader: a fresh one, a call that feeds it, and closing. A reader goes in by value and comes back by
 // value; on a refusal it is as it was.
-use crate::feeding::feed_places;
+use held_bytes::feed_places;
 use held_bytes::keep_part;
 use rules::HOLDS_TOO_MUCH;
 use rules::NO_FAMILY;

@@ -46,7 +46,7 @@ use denote.Triple.Walked.{says, Stays, stay-ref, stay-none-slice, gave-slice, wa
 use Rattle.stream_rules.specs.declared.Reader.{Reader}
 use Rattle.stream_rules.proofs.Reader as R
 use Rattle.stream_rules.proofs.Reader.Laws as R′
-use Rattle.stream.specs.Places.{readerAt}
+use Rattle.held_bytes.specs.Places.{readerAt}
 use Rattle.row_stream.specs.FedRows.{FeedsRow, FeedsRowAt}
 use Rattle.row_stream.specs.declared.Counts.{Counts}
 use Rattle.row_stream.proofs.Counts as T

@@ -10,7 +10,7 @@ use borrow.Author.Needs.{needs}
 use borrow.Author.Tests.{ltb-false}
 use lib.ListN.{length}
 use Rattle.stream_rules.specs.declared.Reader.{Reader}
-use Rattle.stream.specs.Places.{readerAt}
+use Rattle.held_bytes.specs.Places.{readerAt}
 use Rattle.row_stream.proofs.Fed.{laid, not-laid, as-it-was}
 use Rattle.row_stream.proofs.feed_any.Statement.{statement}
 use Rattle.row_stream.proofs.feed_any.Tie as tie

@@ -9,7 +9,7 @@ use rules::REPORT_LENGTH;
 use search::Stop;
 use search::next_stop;
 use spe::begins_report;
-use stream::advanced;
+use starts::advanced;
 use texts::further;
 ghost use mathlib.Core.Path.{_≡_};
 ghost use mathlib.Core.Bool.{true};

@@ -17,7 +17,7 @@ use Rattle.rules.specs.declared.Frame.{Frame}
 use Rattle.rules.specs.declared.Frame.the-variants.{Ack, Status, Command, Apa02, Apa03, Apa05, Other}
 use Rattle.rules.proofs.Frame.{the-type}
 use Rattle.stream_rules.specs.Lister.{fits}
-use Rattle.captures.proofs.Walk.{left, Next, next, no-next, at-end}
+use Rattle.lister.proofs.Walk.{left, Next, next, no-next, at-end}
 use Rattle.captures.specs.declared.spans.Span.{Span}
 use Rattle.captures.specs.Finds.{isReport, given, nothing, firstWanted, nextIn}
 use Rattle.captures.proofs.spans.find.Statement.{statement}
@@ -171,15 +171,9 @@ loop-again c =
 
 returns-4 : tie.Need-returns-4 Inv-loop μ-loop
 returns-4 c =
-<<<<<<< HEAD
     let report = c .before .before .before .before in
     let k = turn report in
-    wanted-report (family k) (capture k) (place k) (reports k) (at k) _ _ _ (k .loop .inv) (found report) (ap isReport (c .enum-told2 .given .1))
-=======
-    let a = c .before .before .before .before .before .before .before .before .before .before .before .before .before .args in
-    let loop = c .before .before .before .before .before .before .before .before .loop in
-    wanted-report (a .family) (a .capture .now) (a .place) (a .reports) (loop .at) _ _ _ (loop .inv) (found (c .before .before .before .before)) (ap (λ (k : Frame). isReport (kindOf k)) (c .enum-told2 .given .1))
->>>>>>> 6f99155 (Whether a frame is a report is said by its kind)
+    wanted-report (family k) (capture k) (place k) (reports k) (at k) _ _ _ (k .loop .inv) (found report) (ap (λ (f : Frame). isReport (kindOf f)) (c .enum-told2 .given .1))
 
 returns-5 : tie.Need-returns-5 Inv-loop μ-loop
 returns-5 c =

@@ -1,0 +1,129 @@
+// The steps of a walk along the starts of a capture: how long the good frame here is, with nothing more
+// to come, and where the next start is that may be good. Nothing of a frame is kept.
+use rules::CODE_COUNT;
+use rules::COMMAND_MARK;
+use rules::LONGEST_PAYLOAD;
+use rules::PACKET_LENGTH;
+use rules::REPORT_COUNT;
+use rules::REPORT_LENGTH;
+use rules::SHORTEST_SENTENCE;
+use spe::ends_report;
+use spe::is_ack;
+use spe::is_command;
+use spe::is_status;
+use texts::text;
+ghost use mathlib.Core.Path.{_≡_};
+ghost use mathlib.Core.Bool.{false};
+ghost use Prim.Native.Nat.{_+_, min, _≤_, _<_};
+ghost use lib.ListN.{length, drop};
+ghost use Rattle.rules.specs.Answers.{replies, sentences, commands};
+ghost use Rattle.rules.specs.Codes.{packetLength};
+ghost use Rattle.stream_rules.specs.Heads.{payloadRun};
+ghost use Rattle.lister.specs.Sizes.{sizeAt, Passes};
+
+// How long the good command at the head is; 0 where there is none.
+pub(crate) fn command_size(s: &[u8]) -> usize
+    ensures { λ r. ⌜ r ≡ sizeAt commands (now (s .entry)) ⌝ }
+{
+    if s.len() < PACKET_LENGTH {
+        return 0;
+    }
+    if is_command(&s[..PACKET_LENGTH]) {
+        return PACKET_LENGTH;
+    }
+    0
+}
+
+// How long the good acknowledgement or report at the head is; 0 where there is none. The count tells
+// which it can be.
+pub(crate) fn reply_size(s: &[u8]) -> usize
+    ensures { λ r. ⌜ r ≡ sizeAt replies (now (s .entry)) ⌝ }
+{
+    if s.len() < PACKET_LENGTH {
+        return 0;
+    }
+    let count = s[3];
+    if count == CODE_COUNT {
+        if is_ack(&s[..PACKET_LENGTH]) {
+            return PACKET_LENGTH;
+        }
+        return 0;
+    }
+    if count != REPORT_COUNT {
+        return 0;
+    }
+    if s.len() < REPORT_LENGTH {
+        return 0;
+    }
+    // nearly all that only begin as a report are turned away by its end
+    if !ends_report(s) {
+        return 0;
+    }
+    if is_status(&s[..REPORT_LENGTH]) {
+        return REPORT_LENGTH;
+    }
+    0
+}
+
+// False only where no good sentence starts: too few bytes, or by what stands in its name's place, that begins with an
+// A, and no digit is below 0.
+pub(crate) fn may_be_sentence(s: &[u8]) -> bool
+    ensures { λ r. ⌜ (r ≡ false → 0 ≡ sizeAt sentences (now (s .entry))) ⌝ }
+{
+    if s.len() < SHORTEST_SENTENCE {
+        return false;
+    }
+    if s[1] != b'A' {
+        return false;
+    }
+    b'0' <= s[5]
+}
+
+// How long the good sentence at the head is, with n payload bytes behind its first byte; 0 where there
+// is none.
+pub(crate) fn sentence_size(s: &[u8], n: usize) -> usize
+    requires { ⌜ n ≡ min (length (payloadRun (drop 1 (now s)))) 129 ⌝ }
+    ensures { λ r. ⌜ r ≡ sizeAt sentences (now (s .entry)) ⌝ }
+{
+    if LONGEST_PAYLOAD < n {
+        return 0;
+    }
+    if s.len() < n + 6 {
+        return 0;
+    }
+    if s[n + 1] != b'*' {
+        return 0;
+    }
+    if alpha::is_sentence(text(s, 0, n + 6)) {
+        return n + 6;
+    }
+    0
+}
+
+// The first start from a place on that has no mark in its count's place, or that fewer bytes are left for than a
+// packet has: no count is a mark.
+fn past_marks(s: &[u8], from: usize) -> usize
+    requires { ⌜ from ≤ length (now s) ⌝ }
+    ensures { λ r. ⌜ Passes commands (now (s .entry)) from r ⌝ }
+{
+    let mut at = from;
+    while PACKET_LENGTH <= s.len() - at {
+        if s[at + 3] != COMMAND_MARK {
+            return at;
+        }
+        at += 1;
+    }
+    at
+}
+
+// Behind a start with no command, the next at which one may stand. Where no mark stands in a count's place, none
+// starts in the three places behind the start.
+pub(crate) fn next_command(s: &[u8], from: usize) -> usize
+    requires { ⌜ (from + packetLength ≤ length (now s)) × (0 ≡ sizeAt commands (drop from (now s))) ⌝ }
+    ensures { λ r. ⌜ (from < r) × Passes commands (now (s .entry)) from r ⌝ }
+{
+    if s[from + 3] != COMMAND_MARK {
+        return past_marks(s, from + 4);
+    }
+    past_marks(s, from + 1)
+}
