@@ -1,12 +1,12 @@
 // A call that offers bytes to a stream reader. The reader comes in its parts, its held places lent, and the call
 // alters these where they stand; on a refusal they are as they were.
+use crate::keep_part;
 use crate::moves::Moved;
 use crate::moves::done;
 use crate::moves::handed_out;
 use crate::moves::refused;
 use crate::pieces::advance;
-use held_bytes::keep_part;
-use held_bytes::size;
+use crate::size;
 use rules::HOLDS_TOO_MUCH;
 use rules::IS_CLOSED;
 use rules::NO_FAMILY;
