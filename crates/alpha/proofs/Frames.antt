@@ -11,7 +11,7 @@ use lib.Seq.{length-take-le, take-all, drop-drop, getD-at}
 use borrow.Author.Tests.{lt-leb}
 use Rattle.rules.specs.Bytes.{part, between, same, every}
 use Rattle.rules.specs.Numbers.{isDigit}
-use Rattle.rules.specs.Sentences.{isPayload, isPayloadByte, isNamed, isSentence, payloadOf, checkOf, gives, numberOf, textsOf}
+use Rattle.rules.specs.Sentences.{isPayload, isPayloadByte, isNamed, isSentence, payloadOf, checkOf, givesSums, numberOf, textsOf}
 use Rattle.rules.specs.Answers.{readTexts, readFamily2, notGood}
 use Rattle.rules.specs.declared.Reading.the-variants.{Refused}
 use Rattle.frame_laws.proofs.Bytes.{both, tests, answer, same-eq, eq-same, between-bounds, bounds-between}
@@ -58,7 +58,7 @@ module _ (bs : List ℕ) where
     marks : isSentence bs ≡ true → (getD bs 0 0 ≡ 36) × (getD bs (length bs - 5) 0 ≡ 42)
     unfolding isSentence
     marks e =
-        let f = both (same bs (36 ∷ payloadOf bs ++ 42 ∷ checkOf bs) && isPayload (payloadOf bs)) (gives (checkOf bs) (payloadOf bs)) e in
+        let f = both (same bs (36 ∷ payloadOf bs ++ 42 ∷ checkOf bs) && isPayload (payloadOf bs)) (givesSums (checkOf bs) (payloadOf bs)) e in
         let q = same-eq bs (36 ∷ payloadOf bs ++ 42 ∷ checkOf bs) (both _ (isPayload (payloadOf bs)) (f .0) .0) in
         let k : length bs - 5 ≡ suc (length bs - 6) = omega arith in (
           ap (λ (l : List ℕ). getD l 0 0) q,
@@ -84,7 +84,7 @@ module _ (bs : List ℕ) where
     by-tests high d s =
         let p = payloadOf bs in
         rw (the-payload, the-check, eq-same bs _ (framed d s), bounds-between 5 128 (length (payloadOf bs)) (omega (arith, payload-length)) (omega (arith, payload-length)))
-        (reordered (every isPayloadByte p) (isNamed p) (gives (checkOf bs) p))
+        (reordered (every isPayloadByte p) (isNamed p) (givesSums (checkOf bs) p))
 
   -- a sentence has a payload, and that a number
   module _ (good : isSentence bs ≡ true) where

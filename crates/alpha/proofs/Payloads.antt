@@ -11,7 +11,7 @@ use lib.Seq.{length-take-le, take-all}
 use borrow.Author.Tests.{ne-eqb}
 use Rattle.rules.specs.Bytes.{part, every}
 use Rattle.rules.specs.Numbers.{isDigit, isHexDigit, hexNumber}
-use Rattle.rules.specs.Sentences.{nothingOrComma, gives, sum1, sum2, numberOf, is02, is03, is05, sentence02, sentence03, sentence05}
+use Rattle.rules.specs.Sentences.{nothingOrComma, givesSums, sum1, sum2, numberOf, is02, is03, is05, sentence02, sentence03, sentence05}
 use Rattle.rules.specs.Answers.{readTexts}
 use Rattle.rules.specs.declared.Frame.the-variants.{Apa02, Apa03, Apa05, Other}
 use Rattle.rules.specs.declared.Reading.the-variants.{Good}
@@ -22,7 +22,7 @@ use Rattle.checksums.specs.Hex.{pairIn}
 use Rattle.checksums.specs.declared.hexadecimal.HexByte.{HexByte}
 use Rattle.checksums.proofs.Digits.{pair-gives}
 use Rattle.alpha.specs.Fields.{Text}
-use Rattle.alpha.specs.Held.{held}
+use Rattle.alpha.specs.Held.{frameIf}
 use Rattle.alpha.proofs.Texts.{as-wide, counted, count-below}
 
 -- Behind `APA` stand two digits, and then nothing or a comma.
@@ -63,8 +63,8 @@ digits-first false b e c d f = refl
 
 pub checked : (allowed : Bool) (check p : List ℕ) → length check ≡ 4 → (upper lower : HexByte)
     → upper ≡ pairIn (getD check 0 0) (getD check 1 0) → lower ≡ pairIn (getD check 2 0) (getD check 3 0)
-    → allowed && upper .good && eqb (upper .value) (sum2 p) && lower .good && eqb (lower .value) (sum1 p) ≡ allowed && gives check p
-unfolding gives every
+    → allowed && upper .good && eqb (upper .value) (sum2 p) && lower .good && eqb (lower .value) (sum1 p) ≡ allowed && givesSums check p
+unfolding givesSums every
 checked allowed check p four upper lower e f =
     let b : ℕ → ℕ = λ k. getD check k 0 in
     let sum2-given = ap (λ (h : HexByte). h .good && eqb (h .value) (sum2 p)) e ∙ pair-gives (b 0) (b 1) (sum2 p) in
@@ -73,19 +73,19 @@ checked allowed check p four upper lower e f =
     ∙ ap (λ (t : Bool). allowed && t)
     (ap₂ _&&_ sum2-given sum1-given
     ∙ digits-first (isHexDigit (b 0)) _ (eqb (hexNumber (b 0) (b 1)) (sum2 p)) (isHexDigit (b 2)) (isHexDigit (b 3)) _
-    ∙ ap (λ (l : List ℕ). gives l p) (one-by-one 0 4 check four))
+    ∙ ap (λ (l : List ℕ). givesSums l p) (one-by-one 0 4 check four))
 
 -- The answer, by the number.
 module _ (n : ℕ) (ts : List Text) where
-  pub as02 : n ≡ 2 → readTexts n ts ≡ held (is02 ts) (Apa02 (sentence02 ts))
+  pub as02 : n ≡ 2 → readTexts n ts ≡ frameIf (is02 ts) (Apa02 (sentence02 ts))
   unfolding readTexts
   as02 e = rw e
 
-  pub as03 : n ≡ 3 → readTexts n ts ≡ held (is03 ts) (Apa03 (sentence03 ts))
+  pub as03 : n ≡ 3 → readTexts n ts ≡ frameIf (is03 ts) (Apa03 (sentence03 ts))
   unfolding readTexts
   as03 e = rw e
 
-  pub as05 : n ≡ 5 → readTexts n ts ≡ held (is05 ts) (Apa05 (sentence05 ts))
+  pub as05 : n ≡ 5 → readTexts n ts ≡ frameIf (is05 ts) (Apa05 (sentence05 ts))
   unfolding readTexts
   as05 e = rw e
 

@@ -13,7 +13,7 @@ use borrow.Author.Count.{below-none, below-more}
 use Rattle.rules.specs.Bytes.{every}
 use Rattle.rules.specs.Sentences.{behindCommas, isDecimal}
 use Rattle.frame_laws.proofs.Bytes.{every-split}
-use Rattle.alpha.specs.Fields.{Text, begins, FieldAt, RowAt}
+use Rattle.alpha.specs.Fields.{Text, begins, FieldAt, FieldsAt}
 
 -- k fields are read, and the next one's comma stands at place a
 pub record Sofar (tests : List (Text → Bool)) (value : Text → ℕ) (r : List ℕ) (k a : ℕ) (vs : List ℕ) : Type 0 where
@@ -35,7 +35,7 @@ module _ {tests : List (Text → Bool)} {value : Text → ℕ} {r : List ℕ} {k
       ∙ ap (λ (l : List (Text → Bool)). begins l (drop k (behindCommas r))) next
       ∙ rw (← so .rest, ← f .told, so .rest, drop-drop)
 
-  pub failing : good ≡ false → {us : List ℕ} {e : ℕ} → RowAt tests value r false us e
+  pub failing : good ≡ false → {us : List ℕ} {e : ℕ} → FieldsAt tests value r false us e
   failing bad = record {
     told = sym (told-next ∙ rw bad);
     read = λ g. absurd (false≢true g);
@@ -53,7 +53,7 @@ module _ {tests : List (Text → Bool)} {value : Text → ℕ} {r : List ℕ} {k
   }
 
 pub whole-row : {tests : List (Text → Bool)} {value : Text → ℕ} {r : List ℕ} {a : ℕ} {vs : List ℕ}
-    → Sofar tests value r (length tests) a vs → RowAt tests value r true vs a
+    → Sofar tests value r (length tests) a vs → FieldsAt tests value r true vs a
 unfolding begins
 whole-row so = record {
   told = sym (so .told ∙ rw drop-length);

@@ -19,8 +19,8 @@ use Rattle.rules.specs.declared.Sentence05.{Sentence05}
 use Rattle.rules.specs.declared.Frame.{Frame}
 use Rattle.rules.specs.declared.Reading.the-variants.{Good, Refused}
 use Rattle.texts.proofs.FieldEnds.{at-end, at-field}
-use Rattle.alpha.specs.Fields.{Text, firstIs, begins, hexValue, FieldAt, RowAt}
-use Rattle.alpha.specs.Held.{held}
+use Rattle.alpha.specs.Fields.{Text, firstIs, begins, hexValue, FieldAt, FieldsAt}
+use Rattle.alpha.specs.Held.{frameIf}
 
 abbrev pub ended : List Text → Bool
 ended [] = true
@@ -70,15 +70,15 @@ last-text test zero (t ∷ u ∷ ts) = rw (eqb·suc-suc, eqb·suc-zero) (sym (an
 last-text test (suc n) [] = rw (eqb·zero-suc)
 last-text test (suc n) (t ∷ ts) = rw (eqb·suc-suc) (last-text test n ts)
 
--- A sentence that is refused, and one that is held.
-pub refused : {keeps : Bool} (frame : Frame) → keeps ≡ false → Refused notGood ≡ held keeps frame
+-- A sentence that is refused, and one that is frameIf.
+pub refused : {keeps : Bool} (frame : Frame) → keeps ≡ false → Refused notGood ≡ frameIf keeps frame
 refused frame e = rw e
 
-pub accepted : {keeps : Bool} {f g : Frame} → keeps ≡ true → f ≡ g → Good f ≡ held keeps g
+pub accepted : {keeps : Bool} {f g : Frame} → keeps ≡ true → f ≡ g → Good f ≡ frameIf keeps g
 accepted e q = rw (e, q)
 
 -- Sentence 02, read as a row of decimal fields.
-module _ {r : List ℕ} {good : Bool} {vs : List ℕ} {end : ℕ} (row : RowAt (map isDecimal widths02) decimal r good vs end) where
+module _ {r : List ℕ} {good : Bool} {vs : List ℕ} {end : ℕ} (row : FieldsAt (map isDecimal widths02) decimal r good vs end) where
   pub no-row02 : good ≡ false → is02 (behindCommas r) ≡ false
   unfolding is02
   no-row02 e = rw (all-decimals widths02 (behindCommas r), ← row .told, e)
@@ -135,7 +135,7 @@ parts03 ts =
     (and-assoc (areDecimals widths03 (take 8 ts)) (eqb (length ts) 9) (isTemperature (getD ts 8 []))
     ∙ ap₂ _&&_ (first-decimals widths03 ts) (last-text isTemperature 8 ts))
 
-module _ {r : List ℕ} {good : Bool} {vs : List ℕ} {end : ℕ} (row : RowAt (map isDecimal widths03) decimal r good vs end) where
+module _ {r : List ℕ} {good : Bool} {vs : List ℕ} {end : ℕ} (row : FieldsAt (map isDecimal widths03) decimal r good vs end) where
   pub no-row03 : good ≡ false → is03 (behindCommas r) ≡ false
   no-row03 e = rw (parts03 (behindCommas r), ← row .told, e)
 
@@ -185,7 +185,7 @@ module _ {r : List ℕ} {good : Bool} {vs : List ℕ} {end : ℕ} (row : RowAt (
         )
 
 -- Sentence 05, read as a row of seven fields of two hexadecimal digits.
-module _ {r : List ℕ} {good : Bool} {vs : List ℕ} {end : ℕ} (row : RowAt (replicate 7 isHexField) hexValue r good vs end) where
+module _ {r : List ℕ} {good : Bool} {vs : List ℕ} {end : ℕ} (row : FieldsAt (replicate 7 isHexField) hexValue r good vs end) where
   pub no-row05 : good ≡ false → is05 (behindCommas r) ≡ false
   unfolding is05
   no-row05 e = rw (all-same isHexField 7 (behindCommas r), ← row .told, e)

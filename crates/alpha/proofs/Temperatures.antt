@@ -20,7 +20,7 @@ use Rattle.texts.specs.Numbers.{digitsIn}
 use Rattle.texts.specs.declared.numbers.Number.{Number}
 use Rattle.frame_laws.proofs.Bytes.{both}
 use Rattle.frame_laws.proofs.Numbers.{decimal-from}
-use Rattle.texts.specs.Commas.{upTo, endAt}
+use Rattle.texts.specs.Commas.{toComma, endAt}
 use Rattle.alpha.specs.Fields.{FieldAt}
 use Rattle.alpha.specs.Values.{degreesIn}
 use Rattle.alpha.specs.declared.fields.Degrees.{Degrees}
@@ -120,5 +120,5 @@ pub degrees-field : {r : List ℕ} {a end : ℕ} {d : Degrees} → a < length r 
     → d ≡ degreesIn (part (a + 1) (end - (a + 1)) r) → FieldAt isTemperature temperature r a (d .good) (d .tenths) end
 unfolding degreesIn
 degrees-field {r} {a} {end} h e q =
-    let u : end - (a + 1) ≡ upTo (drop (a + 1) r) = omega arith in
+    let u : end - (a + 1) ≡ toComma (drop (a + 1) r) = omega arith in
     rw (e, q, u) (passed h refl (λ g. rw g))

@@ -19,7 +19,7 @@ use Rattle.texts.specs.declared.numbers.Number.{Number}
 use Rattle.texts.proofs.Steps.{at as from-place}
 use Rattle.checksums.specs.Hex.{pairIn}
 use Rattle.checksums.specs.declared.hexadecimal.HexByte.{HexByte}
-use Rattle.texts.specs.Commas.{upTo, textAt, endAt}
+use Rattle.texts.specs.Commas.{toComma, textAt, endAt}
 use Rattle.texts.proofs.FieldEnds.{at-end, at-field, end-within, text-length}
 use Rattle.alpha.specs.Fields.{Text, FieldAt, hexValue}
 
@@ -72,7 +72,7 @@ module _ {w : ℕ} {r : List ℕ} {a end : ℕ} (h : a < length r) (e : end ≡ 
   pub decimal-field : {n : Number} → w ≤ 9 → end - (a + 1) ≤ w → n ≡ digitsIn (part (a + 1) (end - (a + 1)) r)
       → FieldAt (isDecimal w) decimal r a (n .good) (n .count) end
   decimal-field k l q =
-      let u : end - (a + 1) ≡ upTo (drop (a + 1) r) = omega arith in
+      let u : end - (a + 1) ≡ toComma (drop (a + 1) r) = omega arith in
       let m : length (textAt a r) ≤ w = omega (arith, text-length r a) in
       rw (e, q, u) (passed h (as-wide w (textAt a r) m k) (counted (textAt a r)))
 
@@ -95,7 +95,7 @@ module _ {r : List ℕ} {a end : ℕ} (h : a < length r) (e : end ≡ endAt a r)
   pub hex-field : end - (a + 1) ≡ 2 → {p : HexByte} → p ≡ pairIn (getD r (a + 1) 0) (getD r (a + 1 + 1) 0)
       → FieldAt isHexField hexValue r a (p .good) (p .value) end
   hex-field n q =
-      let u : upTo (drop (a + 1) r) ≡ 2 = omega arith in
+      let u : toComma (drop (a + 1) r) ≡ 2 = omega arith in
       let two = two-bytes r (a + 1) (omega (arith, end-within r a h)) in
       let t : textAt a r ≡ getD r (a + 1) 0 ∷ getD r (a + 1 + 1) 0 ∷ [] = rw u two in
       rw (e, q) (passed h (pair-test _ _ ∙ ap isHexField (sym t)) (λ g. pair-value _ _ g ∙ ap hexValue (sym t)))

@@ -31,7 +31,7 @@ pub record FieldAt {A : Type 0} (test : Text → Bool) (value : Text → A) (r :
   pub rest : good ≡ true → behindCommas (drop end r) ≡ drop 1 (behindCommas (drop a r))
 
 -- A row of fields from the front of r on: whether each passes its test, and then their values and the row's end.
-pub record RowAt (tests : List (Text → Bool)) (value : Text → ℕ) (r : List ℕ) (good : Bool) (vs : List ℕ) (end : ℕ) : Type 0 where
+pub record FieldsAt (tests : List (Text → Bool)) (value : Text → ℕ) (r : List ℕ) (good : Bool) (vs : List ℕ) (end : ℕ) : Type 0 where
   pub told : good ≡ begins tests (behindCommas r)
   pub read : good ≡ true → (k : ℕ) → k < length tests → getD vs k 0 ≡ value (getD (behindCommas r) k [])
   pub rest : good ≡ true → behindCommas (drop end r) ≡ drop (length tests) (behindCommas r)

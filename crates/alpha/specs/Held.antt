@@ -6,5 +6,5 @@ use Rattle.rules.specs.declared.Reading.{Reading}
 use Rattle.rules.specs.declared.Reading.the-variants.{Good, Refused}
 
 -- the frame where its fields keep their rules, else refusal 8
-abbrev pub held : Bool → Frame → Reading
-held keeps frame = cond keeps (Good frame) (Refused notGood)
+abbrev pub frameIf : Bool → Frame → Reading
+frameIf keeps frame = cond keeps (Good frame) (Refused notGood)

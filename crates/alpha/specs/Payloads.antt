@@ -5,12 +5,12 @@ use mathlib.Core.Bool.{Bool, _&&_, _||_}
 use mathlib.Core.List.{List}
 use lib.Dec.{leb}
 use Rattle.rules.specs.Bytes.{every}
-use Rattle.rules.specs.Sentences.{isPayloadByte, gives, numberOf, textsOf}
+use Rattle.rules.specs.Sentences.{isPayloadByte, givesSums, numberOf, textsOf}
 use Rattle.rules.specs.Answers.{isGood, readTexts}
 
 -- each byte may stand in a payload, and the check digits give its sums
 abbrev pub isChecked : List ℕ → List ℕ → Bool
-isChecked check p = every isPayloadByte p && gives check p
+isChecked check p = every isPayloadByte p && givesSums check p
 
 -- its texts keep the rules of its number
 abbrev pub isGoodPayload : List ℕ → Bool

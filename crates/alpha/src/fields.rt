@@ -9,7 +9,7 @@ ghost use lib.ListN.{length, replicate};
 ghost use Rattle.rules.specs.Bytes.{every};
 ghost use Rattle.rules.specs.Numbers.{decimal};
 ghost use Rattle.rules.specs.Sentences.{isDecimal, isHexField, isTemperature, temperature};
-ghost use Rattle.alpha.specs.Fields.{FieldAt, RowAt, hexValue};
+ghost use Rattle.alpha.specs.Fields.{FieldAt, FieldsAt, hexValue};
 ghost use Rattle.alpha.specs.Values.{degreesIn};
 
 // A decimal field: its number, and where it ends.
@@ -55,7 +55,7 @@ pub(crate) struct DecimalRow {
 // As many decimal fields as there are widths, from the front on.
 pub(crate) fn decimals(r: &[u8], widths: &[usize]) -> DecimalRow
     requires { ⌜ (length (now widths) ≤ 13) × (every (λ w. leb w 9) (now widths) ≡ true) ⌝ }
-    ensures { λ d. ⌜ RowAt (map isDecimal (now (widths .entry))) decimal (now (r .entry)) (d .good) (d .numbers) (d .end) ⌝ }
+    ensures { λ d. ⌜ FieldsAt (map isDecimal (now (widths .entry))) decimal (now (r .entry)) (d .good) (d .numbers) (d .end) ⌝ }
 {
     let mut numbers = [0u32; 13];
     let mut at = 0;
@@ -121,7 +121,7 @@ pub(crate) struct HexRow {
 
 // Seven fields of two hexadecimal digits, from the front on.
 pub(crate) fn hexes(r: &[u8]) -> HexRow
-    ensures { λ h. ⌜ RowAt (replicate 7 isHexField) hexValue (now (r .entry)) (h .good) (h .bytes) (h .end) ⌝ }
+    ensures { λ h. ⌜ FieldsAt (replicate 7 isHexField) hexValue (now (r .entry)) (h .good) (h .bytes) (h .end) ⌝ }
 {
     let mut bytes = [0u8; 7];
     let mut at = 0;

@@ -22,9 +22,9 @@ isReport OfStatus = true
 isReport (OfCommand c) = false
 isReport (OfSentence n) = false
 
--- A frame is given with the place just behind it; where none is left, the part is empty and the place unchanged.
-abbrev pub given : Found → Span
-given f = record { start = f .start; size = f .size; behind = f .start + f .size }
+-- A frame is spanOf with the place just behind it; where none is left, the part is empty and the place unchanged.
+abbrev pub spanOf : Found → Span
+spanOf f = record { start = f .start; size = f .size; behind = f .start + f .size }
 
 abbrev pub nothing : ℕ → Span
 nothing place = record { start = 0; size = 0; behind = place }
@@ -32,7 +32,7 @@ nothing place = record { start = 0; size = 0; behind = place }
 -- The first of the frames; when only reports are wanted, a frame that is no status report is passed over.
 unfoldable pub firstWanted : Bool → ℕ → List Found → Span
 firstWanted onlyReports place [] = nothing place
-firstWanted onlyReports place (f ∷ fs) = cond (not onlyReports || isReport (kindOf (f .frame))) (given f) (firstWanted onlyReports place fs)
+firstWanted onlyReports place (f ∷ fs) = cond (not onlyReports || isReport (kindOf (f .frame))) (spanOf f) (firstWanted onlyReports place fs)
 
 -- From a place on; also nothing where the place is beyond the end, or refusal 1 or 7 would apply.
 unfoldable pub nextIn : ℕ → List ℕ → ℕ → Bool → Span

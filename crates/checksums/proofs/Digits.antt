@@ -30,7 +30,7 @@ unfolding right digitIn isHexDigit hexDigitNumber
 of-digits b h = eqb-true (getD table b 0) (digitIn b) (at-place right table refl b h)
 
 -- what the number found in the table says of the byte
-pub record Found (b n : ℕ) : Type 0 where
+pub record DigitFound (b n : ℕ) : Type 0 where
   pub digit : isHexDigit b ≡ true
   pub number : n ≡ hexDigitNumber b
   pub small : n < 16
@@ -39,7 +39,7 @@ none : (b : ℕ) (h : Bool) → isHexDigit b ≡ h → cond h (hexDigitNumber b)
 none b true p e = absurd (omega (arith, hex-digit-below b p))
 none b false p e = p
 
-found : (b : ℕ) (h : Bool) → isHexDigit b ≡ h → (cond h (hexDigitNumber b) 16 ≡ 16 → ⊥) → Found b (cond h (hexDigitNumber b) 16)
+found : (b : ℕ) (h : Bool) → isHexDigit b ≡ h → (cond h (hexDigitNumber b) 16 ≡ 16 → ⊥) → DigitFound b (cond h (hexDigitNumber b) 16)
 found b true p e = record { digit = p; number = refl; small = hex-digit-below b p }
 found b false p e = absurd (e refl)
 
@@ -47,7 +47,7 @@ pub is-none : (b : ℕ) → digitIn b ≡ 16 → isHexDigit b ≡ false
 unfolding digitIn
 is-none b e = none b (isHexDigit b) refl e
 
-pub is-found : (b : ℕ) → (digitIn b ≡ 16 → ⊥) → Found b (digitIn b)
+pub is-found : (b : ℕ) → (digitIn b ≡ 16 → ⊥) → DigitFound b (digitIn b)
 unfolding digitIn
 is-found b e = found b (isHexDigit b) refl e
 

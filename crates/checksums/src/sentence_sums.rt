@@ -10,9 +10,8 @@ pub struct Sums {
     pub sum2: u8,
 }
 
-// The two sums of the bytes, modulo 256, and whether each byte may stand in a payload. A byte is in
-// sum2 once for each byte from it to the end, which is its weight: so neither sum waits for the
-// other, and the loop can be compiled to take many bytes at once.
+// The two sums of the bytes, modulo 256, and whether each byte may stand in a payload. A byte is in sum2 once for each byte
+// from it to the end, which is its weight.
 pub fn fletcher(p: &[u8]) -> Sums
     ensures { λ r. ⌜ r ≡ sumsIn (now (p .entry)) ⌝ }
 {

@@ -68,22 +68,22 @@ refused-no-frame : (r : Reading) (n : ℕ) (f : Frame) → r ≡ Refused n → r
 refused-no-frame r n f p q = some-family (kindOf f) (ap familyRead (sym q ∙ p))
 
 -- What an answer tells of the bytes: a frame, that it is one of this family and that they are it.
-abbrev Tells : List ℕ → ℕ → Reading → Type 0
-Tells bs n (Good f) = (familyOf (kindOf f) ≡ n) × IsFrame bs f
-Tells bs n (Refused m) = Unit
+abbrev ReadsAs : List ℕ → ℕ → Reading → Type 0
+ReadsAs bs n (Good f) = (familyOf (kindOf f) ≡ n) × IsFrame bs f
+ReadsAs bs n (Refused m) = Unit
 
-tells-1 : (bs : List ℕ) → Tells bs 1 (readOne 1 bs)
+tells-1 : (bs : List ℕ) → ReadsAs bs 1 (readOne 1 bs)
 tells-1 bs = case (answer-1 bs)
   where
-    case : Answer1 bs (readOne 1 bs) → Tells bs 1 (readOne 1 bs)
+    case : Answer1 bs (readOne 1 bs) → ReadsAs bs 1 (readOne 1 bs)
     case (Answer1.an-ack t e) = rw e (refl, ack-exact bs (getD bs 4 0) .0 e)
     case (Answer1.a-report t e) = rw e (refl, (t, refl))
     case (Answer1.neither t u e) = rw e tt
 
-tells-3 : (bs : List ℕ) → Tells bs 3 (readOne 3 bs)
+tells-3 : (bs : List ℕ) → ReadsAs bs 3 (readOne 3 bs)
 tells-3 bs = case (answer-3 bs)
   where
-    case : Answer3 bs (readOne 3 bs) → Tells bs 3 (readOne 3 bs)
+    case : Answer3 bs (readOne 3 bs) → ReadsAs bs 3 (readOne 3 bs)
     case (Answer3.a-command t e) = rw e (refl, command-exact bs (getD bs 4 0) .0 e)
     case (Answer3.none t e) = rw e tt
 
@@ -94,13 +94,13 @@ exact family bs f = (λ h. there h (which family bs), λ i. back-again f (i .0) 
     at : (n : ℕ) → readOne family bs ≡ Good f → family ≡ n → readOne n bs ≡ Good f
     at n h e = subst (λ (m : ℕ). readOne m bs ≡ Good f) e h
 
-    is-one : (n : ℕ) → family ≡ n → Tells bs n (Good f) → IsOne family bs f
+    is-one : (n : ℕ) → family ≡ n → ReadsAs bs n (Good f) → IsOne family bs f
     is-one n e told = (e ∙ sym (told .0), told .1)
 
     there : readOne family bs ≡ Good f → Which family bs → IsOne family bs f
-    there h (first e) = is-one 1 e (subst (Tells bs 1) (at 1 h e) (tells-1 bs))
+    there h (first e) = is-one 1 e (subst (ReadsAs bs 1) (at 1 h e) (tells-1 bs))
     there h (second e) = is-one 2 e (family2-exact bs f .0 (at 2 h e))
-    there h (third e) = is-one 3 e (subst (Tells bs 3) (at 3 h e) (tells-3 bs))
+    there h (third e) = is-one 3 e (subst (ReadsAs bs 3) (at 3 h e) (tells-3 bs))
     there h (none e) = absurd (refused-no-frame (readOne family bs) noFamily f e h)
 
     back-again : (k : Frame) → family ≡ familyOf (kindOf k) → IsFrame bs k → readOne family bs ≡ Good k

@@ -20,31 +20,31 @@ use Rattle.rules.specs.declared.Reading.{Reading}
 use Rattle.rules.specs.declared.Reading.the-variants.{Good, Refused}
 use Rattle.frame_laws.proofs.Exact.{IsNumbered, textsIn, IsFrame}
 use Rattle.frame_laws.proofs.Sentences.{payload, payload-good, payload-texts, payload-number, payload-parts, payload-back, frame-sentence, sentence-payload, sentence-frame}
-use Rattle.frame_laws.proofs.SentenceRecords.{Kind, kind02, kind03, kind05}
+use Rattle.frame_laws.proofs.SentenceRecords.{SentenceKind, kind02, kind03, kind05}
 
 -- What an answer of family 2 tells of the bytes: a frame, that it is one of this family and that they are it; a refusal,
 -- that its number is 8.
-abbrev Tells : List ℕ → Reading → Type 0
-Tells bs (Good f) = (familyOf (kindOf f) ≡ 2) × IsFrame bs f
-Tells bs (Refused m) = m ≡ notGood
+abbrev ReadsAs : List ℕ → Reading → Type 0
+ReadsAs bs (Good f) = (familyOf (kindOf f) ≡ 2) × IsFrame bs f
+ReadsAs bs (Refused m) = m ≡ notGood
 
 -- what each of two answers tells where the test gives it, the chosen one tells
 choice : (P : Reading → Type 0) (test : Bool) (x y : Reading) → (test ≡ true → P x) → (test ≡ false → P y) → P (cond test x y)
 choice P true x y passed failed = passed refl
 choice P false x y passed failed = failed refl
 
-tells : (bs : List ℕ) → Tells bs (readOne 2 bs)
+tells : (bs : List ℕ) → ReadsAs bs (readOne 2 bs)
 unfolding readOne readFamily2 readTexts
 tells bs =
     let n = numberOf (payloadOf bs) in
     let ts = textsOf (payloadOf bs) in
-    choice (Tells bs) (isSentence bs) _ _
-    (λ s. choice (Tells bs) (eqb n 2) _ _
-    (λ e2. choice (Tells bs) (is02 ts) _ _ (λ good. (refl, ((s, eqb-true n 2 e2), good, refl))) (λ bad. refl))
-    (λ n2. choice (Tells bs) (eqb n 3) _ _
-    (λ e3. choice (Tells bs) (is03 ts) _ _ (λ good. (refl, ((s, eqb-true n 3 e3), good, refl))) (λ bad. refl))
-    (λ n3. choice (Tells bs) (eqb n 5) _ _
-    (λ e5. choice (Tells bs) (is05 ts) _ _ (λ good. (refl, ((s, eqb-true n 5 e5), good, refl))) (λ bad. refl))
+    choice (ReadsAs bs) (isSentence bs) _ _
+    (λ s. choice (ReadsAs bs) (eqb n 2) _ _
+    (λ e2. choice (ReadsAs bs) (is02 ts) _ _ (λ good. (refl, ((s, eqb-true n 2 e2), good, refl))) (λ bad. refl))
+    (λ n2. choice (ReadsAs bs) (eqb n 3) _ _
+    (λ e3. choice (ReadsAs bs) (is03 ts) _ _ (λ good. (refl, ((s, eqb-true n 3 e3), good, refl))) (λ bad. refl))
+    (λ n3. choice (ReadsAs bs) (eqb n 5) _ _
+    (λ e5. choice (ReadsAs bs) (is05 ts) _ _ (λ good. (refl, ((s, eqb-true n 5 e5), good, refl))) (λ bad. refl))
     (λ n5. (refl, ((s, refl), eqb-false n 2 n2, eqb-false n 3 n3, eqb-false n 5 n5))))))
     (λ no-sentence. refl)
 
@@ -75,7 +75,7 @@ numbered bs n h = reads bs (h .0) ∙ ap (λ m. readTexts m (textsIn bs)) (h .1)
 
 -- Bytes are read as a frame exactly where it is one of this family and they are it;
 pub family2-exact : (bs : List ℕ) (f : Frame) → (readOne 2 bs ≡ Good f) ↔ ((familyOf (kindOf f) ≡ 2) × IsFrame bs f)
-family2-exact bs f = (λ e. subst (Tells bs) e (tells bs), λ h. back f (h .0) (h .1))
+family2-exact bs f = (λ e. subst (ReadsAs bs) e (tells bs), λ h. back f (h .0) (h .1))
   where
     back : (k : Frame) → familyOf (kindOf k) ≡ 2 → IsFrame bs k → readOne 2 bs ≡ Good k
     back (Ack c) alpha h = absurd (omega arith)
@@ -89,19 +89,19 @@ family2-exact bs f = (λ e. subst (Tells bs) e (tells bs), λ h. back f (h .0) (
 -- where they are no such sentence, and only there, they are refused, with number 8.
 pub family2-refused : (bs : List ℕ) (n : ℕ) → (readOne 2 bs ≡ Refused n) ↔ (((f : Frame) → familyOf (kindOf f) ≡ 2 → IsFrame bs f → ⊥) × (n ≡ notGood))
 family2-refused bs n =
-    (λ e. (λ f alpha h. never f (family2-exact bs f .1 (alpha, h)) e, subst (Tells bs) e (tells bs)), λ h. by-answer h (readOne 2 bs) refl (tells bs))
+    (λ e. (λ f alpha h. never f (family2-exact bs f .1 (alpha, h)) e, subst (ReadsAs bs) e (tells bs)), λ h. by-answer h (readOne 2 bs) refl (tells bs))
   where
     never : (f : Frame) → readOne 2 bs ≡ Good f → readOne 2 bs ≡ Refused n → ⊥
     never f g r = let z : _≡_ {A = ℕ} 0 1 = cc in omega arith
 
-    by-answer : ((f : Frame) → familyOf (kindOf f) ≡ 2 → IsFrame bs f → ⊥) × (n ≡ notGood) → (a : Reading) → readOne 2 bs ≡ a → Tells bs a → readOne 2 bs ≡ Refused n
+    by-answer : ((f : Frame) → familyOf (kindOf f) ≡ 2 → IsFrame bs f → ⊥) × (n ≡ notGood) → (a : Reading) → readOne 2 bs ≡ a → ReadsAs bs a → readOne 2 bs ≡ Refused n
     by-answer h (Good f) e t = absurd (h .0 f (t .0) (t .1))
     by-answer h (Refused m) e t = e ∙ ap Refused (t ∙ sym (h .1))
 
 -- The argument for a kind of record and its number. What is written of a record in range is a sentence of that number
 -- with the texts written,
 module _ {R : Type 0} {is : List (List ℕ) → Bool} {read : List (List ℕ) → R} {write : R → List (List ℕ)} {inRange : R → Bool}
-    {form : List (List ℕ) → Bool} (kind : Kind is read write inRange form) (n : ℕ) (two-digits : n < 100) where
+    {form : List (List ℕ) → Bool} (kind : SentenceKind is read write inRange form) (n : ℕ) (two-digits : n < 100) where
   texts-back : (r : R) → inRange r ≡ true → textsOf (payloadOf (sentenceFrame (payload n (write r)))) ≡ write r
   texts-back r fits = ap textsOf (payload-back (payload n (write r))) ∙ payload-texts n (write r) two-digits (kind .clean r fits)
 

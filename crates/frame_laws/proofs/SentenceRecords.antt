@@ -24,7 +24,7 @@ use Rattle.frame_laws.proofs.SentenceFields.{AsWritten, decimals-writte
 
 -- The laws of a kind of sentence with a record. `is` are the rules of its texts, `form` the writer's form; 123 is what
 -- the longest payload has behind its number.
-pub record Kind {R : Type 0} (is : List (List ℕ) → Bool) (read : List (List ℕ) → R) (write : R → List (List ℕ))
+pub record SentenceKind {R : Type 0} (is : List (List ℕ) → Bool) (read : List (List ℕ) → R) (write : R → List (List ℕ))
     (inRange : R → Bool) (form : List (List ℕ) → Bool) : Type 0 where
   pub good : (r : R) → inRange r ≡ true → is (write r) ≡ true
   pub back : (r : R) → inRange r ≡ true → read (write r) ≡ r
@@ -71,7 +71,7 @@ good02 : (r : Sentence02) → inRange02 r ≡ true → is02 (texts02 r) ≡ true
 unfolding is02
 good02 r fits = simp and-eq-true-iff (written02 r fits .good, ap inRange02 (back02 r fits) ∙ fits)
 
-pub kind02 : Kind is02 sentence02 texts02 inRange02 (fullWidth widths02)
+pub kind02 : SentenceKind is02 sentence02 texts02 inRange02 (fullWidth widths02)
 unfolding is02 decimals numbers02 commas withZeros
 kind02 = record {
   good = good02;
@@ -147,7 +147,7 @@ full03 r fits =
     both-pass (fullWidth widths03 (texts03 r)) (temperatureForm (temperatureText (r .temp)))
     (written03 r fits .full) (temperature-form (r .temp) (small03 r fits))
 
-pub kind03 : Kind is03 sentence03 texts03 inRange03 form03
+pub kind03 : SentenceKind is03 sentence03 texts03 inRange03 form03
 unfolding is03 decimals numbers03 commas withZeros temperatureText
 kind03 = record {
   good = good03;
@@ -260,7 +260,7 @@ good05 : (r : Sentence05) → inRange05 r ≡ true → every isHexField (texts05
 unfolding texts05 joined05
 good05 r fits = hexes-good (joined05 r) (bytes-in r fits)
 
-pub kind05 : Kind is05 sentence05 texts05 inRange05 (λ ts. true)
+pub kind05 : SentenceKind is05 sentence05 texts05 inRange05 (λ ts. true)
 unfolding is05 texts05 commas
 kind05 = record {
   good = good05;

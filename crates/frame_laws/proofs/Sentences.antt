@@ -15,7 +15,7 @@ use lib.Seq.{take-at, drop-at, drop-drop}
 use borrow.Author.Tests.{eqb-true, eq-eqb, le-leb, ne-eqb, not-true}
 use Rattle.rules.specs.Bytes.{ascii, between, every, part}
 use Rattle.rules.specs.Numbers.{isDigit, isHexDigit, hexNumber, hexDigits, withZeros}
-use Rattle.rules.specs.Sentences.{sum1From, sum2From, sum1, sum2, isPayloadByte, nothingOrComma, isPayload, payloadOf, checkOf, gives, isSentence, numberOf, onto, betweenCommas, behindCommas, textsOf, commas, sentenceFrame}
+use Rattle.rules.specs.Sentences.{sum1From, sum2From, sum1, sum2, isPayloadByte, nothingOrComma, isPayload, payloadOf, checkOf, givesSums, isSentence, numberOf, onto, betweenCommas, behindCommas, textsOf, commas, sentenceFrame}
 use Rattle.frame_laws.proofs.Bytes.{both, tests, either, between-bounds, same-eq, eq-same, every-cons, every-split, every-append, every-weaker, one-by-one}
 use Rattle.frame_laws.proofs.Numbers.{zeros-digits, zeros-read, zeros-write, hex-digits, hex-read, hex-write}
 
@@ -111,8 +111,8 @@ pub check-back : (p : List ℕ) → checkOf (sentenceFrame p) ≡ hexDigits (sum
 check-back p = ap checkOf (frame-framed p) ∙ check-framed p (checks p) refl
 
 -- The digits of the two sums give them, so a payload that is framed is a sentence;
-gives-checks : (p : List ℕ) → gives (checks p) p ≡ true
-unfolding gives
+gives-checks : (p : List ℕ) → givesSums (checks p) p ≡ true
+unfolding givesSums
 gives-checks p =
     let digits2 = hex-digits (sum2 p) (sum2-fits p) in
     let digits1 = hex-digits (sum1 p) (sum1-fits p) in
@@ -125,7 +125,7 @@ unfolding isSentence
 frame-sentence p good =
     let bs = sentenceFrame p in
     let whole = frame-framed p ∙ sym (ap₂ framed (payload-back p) (check-back p)) in
-    let given = ap₂ gives (check-back p) (payload-back p) ∙ gives-checks p in
+    let given = ap₂ givesSums (check-back p) (payload-back p) ∙ gives-checks p in
     simp and-eq-true-iff
     ((eq-same bs (framed (payloadOf bs) (checkOf bs)) whole, ap isPayload (payload-back p) ∙ good), given)
 
@@ -133,8 +133,8 @@ frame-sentence p good =
 only-digits : (a b n : ℕ) → isHexDigit a ≡ true → isHexDigit b ≡ true → eqb (hexNumber a b) n ≡ true → hexDigits n ≡ a ∷ b ∷ []
 only-digits a b n ha hb e = ap hexDigits (sym (eqb-true (hexNumber a b) n e)) ∙ hex-write a b ha hb
 
-checks-given : (check p : List ℕ) → length check ≡ 4 → gives check p ≡ true → check ≡ checks p
-unfolding gives every
+checks-given : (check p : List ℕ) → length check ≡ 4 → givesSums check p ≡ true → check ≡ checks p
+unfolding givesSums every
 checks-given check p four good =
     let h = simp and-eq-true-iff at good in
     let bytes = one-by-one 0 4 check four in

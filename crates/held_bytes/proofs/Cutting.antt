@@ -16,7 +16,7 @@ use Rattle.stream_laws.proofs.Looks.{OpenFirst, look-waiting}
 use Rattle.stream_laws.proofs.Families.{facts}
 use Rattle.stream_laws.proofs.Calls.{wanted-call}
 use Rattle.stream_laws.proofs.CallsAtOnce.{piece-keeps}
-use Rattle.stream_laws.proofs.Jump.{Jump, jump, upTo, drop-take}
+use Rattle.stream_laws.proofs.Jump.{Jump, jump, takenBy, drop-take}
 use Rattle.search.specs.Sought.{soughtIn}
 use Rattle.search.specs.declared.Hit.{Hit}
 use Rattle.search.specs.declared.Sought.the-variants.{Ready, Waiting}
@@ -95,7 +95,7 @@ module _ (family : ℕ) (work : List ℕ) (count : ℕ) (there : count ≤ lengt
       let found = finds family work hit e in
       let here : look (head family) (held ++ others) ≡ ready k n f (found .0) = ap (look (head family)) both ∙ found .1 in
       let reaches : reach family (suc k) (held ++ others) ≡ reach family (suc k) work = ap (reach family (suc k)) both in
-      let up-to : to ≡ upTo family held others k = omega (arith, up, found .2, reaches, size) in
+      let up-to : to ≡ takenBy family held others k = omega (arith, up, found .2, reaches, size) in
       let j : Jump family held others k n f to = jump family held others k n f (found .0) here to up-to in
       let kept = ap (λ (l : List ℕ). drop (k + n) (take to l)) both ∙ drop-take (k + n) to work in
       record {

@@ -14,7 +14,7 @@ use Rattle.rules.specs.Sentences.{numbers02, numbers03}
 use Rattle.rules.specs.Answers.{values}
 use Rattle.rules.specs.declared.Frame.{Frame}
 use Rattle.rules.specs.declared.Frame.the-variants.{Ack, Status, Command, Apa02, Apa03, Apa05, Other}
-use Rattle.records.specs.Told.{valuePlaces, fieldsOf, Tells}
+use Rattle.records.specs.Told.{valuePlaces, fieldsOf, FieldsTold}
 use Rattle.records.specs.declared.told.Fields.{Fields}
 
 pub zeros-left : (n m : ℕ) → drop n (replicate m (pos 0)) ≡ replicate (m - n) (pos 0)
@@ -41,14 +41,14 @@ few-values (Apa05 r) = lit≤ tt
 few-values (Other n) = lit≤ tt
 
 -- What is told of a frame: its fields; of these the values come back, and they stand in the places.
-pub tells : (f : Frame) {r : Fields} → r ≡ fieldsOf f → Tells f r
+pub tells : (f : Frame) {r : Fields} → r ≡ fieldsOf f → FieldsTold f r
 tells f e = record {
   kind = ap (λ (x : Fields). x .kind) e;
   count = ap (λ (x : Fields). x .count) e;
   places = ap (λ (x : Fields). x .values) e;
 }
 
-module _ {f : Frame} {r : Fields} (told : Tells f r) where
+module _ {f : Frame} {r : Fields} (told : FieldsTold f r) where
   pub told-values : take (r .count) (r .values) ≡ values f
   told-values = rw (told .count, told .places, take-append-seam)
 

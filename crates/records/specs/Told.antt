@@ -24,7 +24,7 @@ abbrev pub fieldsOf : Frame → Fields
 fieldsOf f = withValues (kindOf f) (values f)
 
 -- what is told of a frame
-pub record Tells (f : Frame) (r : Fields) : Type 0 where
+pub record FieldsTold (f : Frame) (r : Fields) : Type 0 where
   pub kind : r .kind ≡ kindOf f
   pub count : r .count ≡ length (values f)
   pub places : r .values ≡ placed (values f)

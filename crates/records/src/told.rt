@@ -13,7 +13,7 @@ ghost use lib.IntN.{pos};
 ghost use lib.ListN.{length};
 ghost use Prim.Native.Nat.{_≤_};
 ghost use Rattle.rules.specs.declared.Frame.the-variants.{Apa03};
-ghost use Rattle.records.specs.Told.{valuePlaces, withValues, fieldsOf, Tells};
+ghost use Rattle.records.specs.Told.{valuePlaces, withValues, fieldsOf, FieldsTold};
 
 // How many values a frame has at most: those of a status report.
 pub const VALUE_PLACES: usize = 20;
@@ -71,7 +71,7 @@ fn fields_of_03(r: Sentence03) -> Fields
 
 // The fields of a frame.
 pub fn fields_of(frame: Frame) -> Fields
-    ensures { λ r. ⌜ Tells frame r ⌝ }
+    ensures { λ r. ⌜ FieldsTold frame r ⌝ }
 {
     match frame {
         Frame::Ack(code) => without_values(Kind::OfAck(code)),

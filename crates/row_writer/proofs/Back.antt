@@ -23,7 +23,7 @@ use Rattle.frame_laws.proofs.Bytes.{tests, both-pass, one-of-these}
 use Rattle.frame_laws.proofs.Report.{fits}
 use Rattle.rows.specs.Rows.{kindRow, codeOf}
 use Rattle.row_writer.specs.declared.given.Given.the-variants.{AFrame}
-use Rattle.row_writer.specs.Given.{upTo, aTemperature, numberUpTo, temperatureOf, valueAt, isStatusRow, isRow02, isRow03, isRow05, statusFrom, from02, from03, from05, sentenceGiven, frameGiven}
+use Rattle.row_writer.specs.Given.{atMost, aTemperature, numberUpTo, temperatureOf, valueAt, isStatusRow, isRow02, isRow03, isRow05, statusFrom, from02, from03, from05, sentenceGiven, frameGiven}
 
 -- Numbers up to a limit, as values: they pass the test, and each is kept.
 abbrev Each : ℕ → List ℕ → Type 0
@@ -31,10 +31,10 @@ Each limit [] = Unit
 Each limit (n ∷ ns) = (n ≤ limit) × Each limit ns
 
 module _ (limit : ℕ) where
-  pass : (ns : List ℕ) → Each limit ns → every (upTo limit) (map pos ns) ≡ true
+  pass : (ns : List ℕ) → Each limit ns → every (atMost limit) (map pos ns) ≡ true
   unfolding every
   pass [] h = refl
-  pass (n ∷ ns) h = both-pass (leb n limit) (every (upTo limit) (map pos ns)) (le-leb n limit (h .0)) (pass ns (h .1))
+  pass (n ∷ ns) h = both-pass (leb n limit) (every (atMost limit) (map pos ns)) (le-leb n limit (h .0)) (pass ns (h .1))
 
   kept : (ns : List ℕ) → Each limit ns → (i : ℕ) → numberUpTo limit (valueAt (map pos ns) i) ≡ getD ns i 0
   kept [] h i = rw (le-leb 0 limit (omega arith))

@@ -13,8 +13,8 @@ use Rattle.row_writer.specs.declared.given.Given.the-variants.{AFrame, N
 use Rattle.row_writer.specs.Given.{isStatusRow, isRow02, isRow03, isRow05, statusFrom, from02, from03, from05, sentenceGiven, frameGiven}
 
 -- a row that fits gives the frame, and one that does not gives none
-pub held : {fits : Bool} {f g : Frame} → fits ≡ true → f ≡ g → AFrame f ≡ cond fits (AFrame g) Nothing
-held e q = rw e (ap AFrame q)
+pub chosen : {fits : Bool} {f g : Frame} → fits ≡ true → f ≡ g → AFrame f ≡ cond fits (AFrame g) Nothing
+chosen e q = rw e (ap AFrame q)
 
 pub dropped : {fits : Bool} (g : Given) → fits ≡ false → Nothing ≡ cond fits g Nothing
 dropped g e = rw e

@@ -11,13 +11,13 @@ use lib.Signed.{leZ, nonNeg}
 use mir.Syntax.{w32, w64}
 use mir.Val.{SFits, ofZ, toZ}
 use mir.ValLaws.{toZ-ofZ}
-use Rattle.row_writer.specs.Given.{upTo, aTemperature, numberUpTo}
+use Rattle.row_writer.specs.Given.{atMost, aTemperature, numberUpTo}
 
 -- what is said of the signed reading of a value's bits is said of the value
 pub as-read : {A : Type 0} (of : ℤ → A) {x : A} (v : ℤ) → SFits w64 v → x ≡ of (toZ w64 (ofZ w64 v)) → x ≡ of v
 as-read of v fits e = e ∙ ap of (toZ-ofZ w64 v fits)
 
-pub between-zero : (limit : ℕ) (v : ℤ) → leZ (pos 0) v && leZ v (pos limit) ≡ upTo limit v
+pub between-zero : (limit : ℕ) (v : ℤ) → leZ (pos 0) v && leZ v (pos limit) ≡ atMost limit v
 between-zero limit (pos n) = rw (leb·zero n)
 between-zero limit (negsuc n) = refl
 
@@ -25,17 +25,17 @@ pub between-signs : (v : ℤ) → leZ (negsuc 0x7FFFFFFF) v && leZ v (pos 0x7FFF
 between-signs (pos n) = refl
 between-signs (negsuc n) = and-true (leb n 0x7FFFFFFF)
 
-pub not-negative : (limit : ℕ) (v : ℤ) → upTo limit v ≡ true → T (nonNeg v)
+pub not-negative : (limit : ℕ) (v : ℤ) → atMost limit v ≡ true → T (nonNeg v)
 not-negative limit (pos n) e = tt
 not-negative limit (negsuc n) e = absurd (false≢true e)
 
-pub at-most : (limit : ℕ) (v : ℤ) → upTo limit v ≡ true → natAbs v ≤ limit
+pub at-most : (limit : ℕ) (v : ℤ) → atMost limit v ≡ true → natAbs v ≤ limit
 at-most limit (pos n) e = leb-true n limit e
 at-most limit (negsuc n) e = absurd (false≢true e)
 
 -- a number that is up to a limit, or else 0, is up to it
 pub number-small : (limit : ℕ) (v : ℤ) → numberUpTo limit v ≤ limit
-number-small limit v = by-test (upTo limit v) (at-most limit v)
+number-small limit v = by-test (atMost limit v) (at-most limit v)
   where
     by-test : (b : Bool) → (b ≡ true → natAbs v ≤ limit) → cond b (natAbs v) 0 ≤ limit
     by-test true h = h refl

@@ -21,16 +21,16 @@ use Rattle.row_writer.specs.declared.given.Given.{Given}
 use Rattle.row_writer.specs.declared.given.Given.the-variants.{AFrame, Nothing}
 
 -- a value from 0 to the limit
-abbrev pub upTo : ℕ → ℤ → Bool
-upTo limit (pos n) = leb n limit
-upTo limit (negsuc n) = false
+abbrev pub atMost : ℕ → ℤ → Bool
+atMost limit (pos n) = leb n limit
+atMost limit (negsuc n) = false
 
 -- Which values a field can hold: a byte, 32 bits, and 32 bits with a sign, where `negsuc n` is one below -n.
 abbrev pub aByte : ℤ → Bool
-aByte v = upTo 255 v
+aByte v = atMost 255 v
 
 abbrev pub aWord : ℤ → Bool
-aWord v = upTo 0xFFFFFFFF v
+aWord v = atMost 0xFFFFFFFF v
 
 abbrev pub aTemperature : ℤ → Bool
 aTemperature (pos n) = leb n 0x7FFFFFFF
@@ -38,7 +38,7 @@ aTemperature (negsuc n) = leb n 0x7FFFFFFF
 
 -- the number in such a field, and 0 for a value that it cannot hold
 abbrev pub numberUpTo : ℕ → ℤ → ℕ
-numberUpTo limit v = cond (upTo limit v) (natAbs v) 0
+numberUpTo limit v = cond (atMost limit v) (natAbs v) 0
 
 abbrev pub byteOf : ℤ → ℕ
 byteOf v = numberUpTo 255 v

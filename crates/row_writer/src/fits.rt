@@ -2,7 +2,7 @@
 // then holds. A value that does not fit, or is not there, is 0.
 ghost use mathlib.Core.Path.{_≡_};
 ghost use Rattle.rules.specs.Bytes.{every};
-ghost use Rattle.row_writer.specs.Given.{upTo, aTemperature, numberUpTo, byteOf, wordOf, temperatureOf, valueAt};
+ghost use Rattle.row_writer.specs.Given.{atMost, aTemperature, numberUpTo, byteOf, wordOf, temperatureOf, valueAt};
 
 // The largest number in a byte, and in 32 bits.
 pub(crate) const BYTE: u32 = 255;
@@ -11,14 +11,14 @@ pub(crate) const WORD: u32 = 0xFFFF_FFFF;
 
 // Whether the value is from 0 to the limit.
 fn up_to(v: i64, limit: u32) -> bool
-    ensures { λ r. ⌜ r ≡ upTo limit v ⌝ }
+    ensures { λ r. ⌜ r ≡ atMost limit v ⌝ }
 {
     (0 <= v) & (v <= limit as i64)
 }
 
 // The same for each of the values.
 pub(crate) fn fit(values: &[i64], limit: u32) -> bool
-    ensures { λ r. ⌜ r ≡ every (upTo limit) (now (values .entry)) ⌝ }
+    ensures { λ r. ⌜ r ≡ every (atMost limit) (now (values .entry)) ⌝ }
 {
     let mut i = 0;
     while i < values.len() {

@@ -10,11 +10,11 @@ use lib.ListN.{length, length-append}
 use Rattle.rules.specs.Answers.{kindOf, values}
 use Rattle.rules.specs.declared.Frame.{Frame}
 use Rattle.records.proofs.Places.{few-values}
-use Rattle.rows.specs.Rows.{longestRow, kindRow, codeOf, head, row, rowNumber}
+use Rattle.rows.specs.Rows.{longestRow, kindRow, codeOf, heading, row, rowNumber}
 
 pub row-fits : (taken start skipped size : ℕ) (f : Frame) → length (row taken start skipped size f) ≤ longestRow
 row-fits taken start skipped size f =
-    omega (arith, length-append (head (kindRow (kindOf f)) (codeOf (kindOf f)) taken start skipped size) (values f), few-values f)
+    omega (arith, length-append (heading (kindRow (kindOf f)) (codeOf (kindOf f)) taken start skipped size) (values f), few-values f)
 
 -- with so many numbers lent, only a refusal has another number than 0
 pub room : (r numbers : List ℤ) → length r ≤ 26 → 26 ≤ length numbers → rowNumber r numbers ≡ 0

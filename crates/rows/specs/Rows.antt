@@ -38,8 +38,8 @@ abbrev pub doneRow : ℕ
 doneRow = 6
 
 -- the numbers before a frame's values, and those of the longest row, a status report's
-abbrev pub rowHead : ℕ
-rowHead = 6
+abbrev pub headingLength : ℕ
+headingLength = 6
 
 abbrev pub longestRow : ℕ
 longestRow = 26
@@ -62,15 +62,15 @@ abbrev pub counted : ℕ → ℤ
 counted n = pos (n % 2 ^ 63)
 
 -- the six numbers in front of the values
-abbrev pub head : ℕ → ℕ → ℕ → ℕ → ℕ → ℕ → List ℤ
-head kind code taken start skipped size = pos kind ∷ pos code ∷ counted taken ∷ pos start ∷ pos skipped ∷ counted size ∷ []
+abbrev pub heading : ℕ → ℕ → ℕ → ℕ → ℕ → ℕ → List ℤ
+heading kind code taken start skipped size = pos kind ∷ pos code ∷ counted taken ∷ pos start ∷ pos skipped ∷ counted size ∷ []
 
 abbrev pub row : ℕ → ℕ → ℕ → ℕ → Frame → List ℤ
-row taken start skipped size f = head (kindRow (kindOf f)) (codeOf (kindOf f)) taken start skipped size ++ values f
+row taken start skipped size f = heading (kindRow (kindOf f)) (codeOf (kindOf f)) taken start skipped size ++ values f
 
 -- without a frame
 abbrev pub rowWithout : ℕ → ℕ → List ℤ
-rowWithout kind taken = head kind 0 taken 0 0 0
+rowWithout kind taken = heading kind 0 taken 0 0 0
 
 abbrev pub rowFed : Answer → List ℤ
 rowFed (Ready r) = row (r .taken) (r .start) (r .skipped) (r .length) (r .frame)

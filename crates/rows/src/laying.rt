@@ -13,7 +13,7 @@ ghost use lib.ListN.{length};
 ghost use Prim.Native.Nat.{_+_, _≤_};
 ghost use Rattle.rules.specs.Answers.{said};
 ghost use Rattle.stream_rules.specs.Streams.{saidToFeed};
-ghost use Rattle.rows.specs.Rows.{rowHead, kindRow, codeOf, counted, head, row, rowFed, rowAt, laidAt, RowIn, AnswerIn};
+ghost use Rattle.rows.specs.Rows.{headingLength, kindRow, codeOf, counted, heading, row, rowFed, rowAt, laidAt, RowIn, AnswerIn};
 
 // The first number of a row: what kind of frame, or that more is wanted, or that all is done.
 pub const ACK_ROW: u32 = 1;
@@ -29,7 +29,7 @@ pub const MORE_ROW: u32 = 5;
 pub const DONE_ROW: u32 = 6;
 
 // How many numbers stand before a frame's values, and how many the longest row has: that of a status report.
-pub const ROW_HEAD: usize = 6;
+pub const HEADING_LENGTH: usize = 6;
 
 pub const LONGEST_ROW: usize = 26;
 
@@ -81,18 +81,18 @@ fn code_of(kind: Kind) -> u32
 
 // The frame's values, behind the six numbers in front of them.
 fn put_values(numbers: &mut [i64], values: &[i64])
-    requires { ⌜ rowHead + length (now values) ≤ length (now numbers) ⌝ }
-    ensures { λ _. ⌜ now (numbers .exit) ≡ laidAt rowHead (now (values .entry)) (now (numbers .entry)) ⌝ }
+    requires { ⌜ headingLength + length (now values) ≤ length (now numbers) ⌝ }
+    ensures { λ _. ⌜ now (numbers .exit) ≡ laidAt headingLength (now (values .entry)) (now (numbers .entry)) ⌝ }
 {
     let mut i = 0;
     while i < values.len() {
-        numbers[ROW_HEAD + i] = values[i];
+        numbers[HEADING_LENGTH + i] = values[i];
         i += 1;
     }
 }
 
 // The first six numbers of a row.
-fn put_head(
+fn put_heading(
     numbers: &mut [i64],
     kind: u32,
     code: u32,
@@ -102,7 +102,7 @@ fn put_head(
     size: usize,
 )
     requires { ⌜ 6 ≤ length (now numbers) ⌝ }
-    ensures { λ _. ⌜ now (numbers .exit) ≡ laidAt 0 (head kind code taken start skipped size) (now (numbers .entry)) ⌝ }
+    ensures { λ _. ⌜ now (numbers .exit) ≡ laidAt 0 (heading kind code taken start skipped size) (now (numbers .entry)) ⌝ }
 {
     let what = [kind, code, 0, start, skipped, 0];
     put_numbers(numbers, 0, &what);
@@ -125,10 +125,10 @@ fn lay_frame(
     let kind = told.kind;
     let count = told.count;
     let values = told.values;
-    if numbers.len() < ROW_HEAD + count {
+    if numbers.len() < HEADING_LENGTH + count {
         return HAS_NO_ROOM;
     }
-    put_head(
+    put_heading(
         numbers,
         kind_row(kind),
         code_of(kind),
@@ -142,7 +142,7 @@ fn lay_frame(
 }
 
 // A row that has no values: its six numbers. Refusal 4 where they have no room.
-pub fn lay_head(
+pub fn lay_heading(
     kind: u32,
     code: u32,
     taken: usize,
@@ -151,12 +151,12 @@ pub fn lay_head(
     size: usize,
     numbers: &mut [i64],
 ) -> u32
-    ensures { λ r. ⌜ RowIn numbers r (head kind code taken start skipped size) ⌝ }
+    ensures { λ r. ⌜ RowIn numbers r (heading kind code taken start skipped size) ⌝ }
 {
-    if numbers.len() < ROW_HEAD {
+    if numbers.len() < HEADING_LENGTH {
         return HAS_NO_ROOM;
     }
-    put_head(numbers, kind, code, taken, start, skipped, size);
+    put_heading(numbers, kind, code, taken, start, skipped, size);
     0
 }
 
@@ -171,16 +171,16 @@ pub fn lay_values(
     values: &[u32],
     numbers: &mut [i64],
 ) -> u32
-    ensures { λ r. ⌜ RowIn numbers r (head kind code taken start skipped size ++ map pos (now (values .entry))) ⌝ }
+    ensures { λ r. ⌜ RowIn numbers r (heading kind code taken start skipped size ++ map pos (now (values .entry))) ⌝ }
 {
-    if numbers.len() < ROW_HEAD {
+    if numbers.len() < HEADING_LENGTH {
         return HAS_NO_ROOM;
     }
-    if numbers.len() - ROW_HEAD < values.len() {
+    if numbers.len() - HEADING_LENGTH < values.len() {
         return HAS_NO_ROOM;
     }
-    put_head(numbers, kind, code, taken, start, skipped, size);
-    put_numbers(numbers, ROW_HEAD, values);
+    put_heading(numbers, kind, code, taken, start, skipped, size);
+    put_numbers(numbers, HEADING_LENGTH, values);
     0
 }
 
@@ -200,8 +200,8 @@ pub fn lay_answer(answer: Answer, numbers: &mut [i64]) -> u32
                 numbers,
             )
         }
-        Answer::More(taken) => lay_head(MORE_ROW, 0, taken, 0, 0, 0, numbers),
-        Answer::Done(taken) => lay_head(DONE_ROW, 0, taken, 0, 0, 0, numbers),
+        Answer::More(taken) => lay_heading(MORE_ROW, 0, taken, 0, 0, 0, numbers),
+        Answer::Done(taken) => lay_heading(DONE_ROW, 0, taken, 0, 0, 0, numbers),
         Answer::Refused(n) => n as u32,
     }
 }

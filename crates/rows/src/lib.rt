@@ -9,5 +9,5 @@ pub use laying::MORE_ROW;
 pub use laying::SENTENCE_ROW;
 pub use laying::STATUS_ROW;
 pub use laying::lay_answer;
-pub use laying::lay_head;
+pub use laying::lay_heading;
 pub use reading::read_row;

@@ -1,9 +1,8 @@
-// Reads one frame and lays its row. What a reply or a command says goes from its bytes to the row: no record is made
-// of it.
+// Reads one frame and lays its row. What a reply or a command says goes from its bytes to the row.
 use crate::laying::ACK_ROW;
 use crate::laying::COMMAND_ROW;
 use crate::laying::STATUS_ROW;
-use crate::laying::lay_head;
+use crate::laying::lay_heading;
 use crate::laying::lay_reading;
 use crate::laying::lay_values;
 use alpha::read_sentence;
@@ -28,7 +27,7 @@ fn reply_row(bytes: &[u8], taken: usize, start: u32, skipped: u32, numbers: &mut
 {
     let size = bytes.len();
     if is_ack(bytes) {
-        return lay_head(
+        return lay_heading(
             ACK_ROW,
             bytes[4] as u32,
             taken,
@@ -52,7 +51,7 @@ fn command_row(bytes: &[u8], taken: usize, start: u32, skipped: u32, numbers: &m
 {
     let size = bytes.len();
     if is_command(bytes) {
-        return lay_head(
+        return lay_heading(
             COMMAND_ROW,
             bytes[4] as u32,
             taken,

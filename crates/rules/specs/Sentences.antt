@@ -62,8 +62,8 @@ payloadOf bs = part 1 (length bs - 6) bs
 abbrev pub checkOf : List ℕ → List ℕ
 checkOf bs = drop (length bs - 4) bs
 
-unfoldable pub gives : List ℕ → List ℕ → Bool
-gives check p =
+unfoldable pub givesSums : List ℕ → List ℕ → Bool
+givesSums check p =
     every isHexDigit check
     && eqb (hexNumber (getD check 0 0) (getD check 1 0)) (sum2 p)
     && eqb (hexNumber (getD check 2 0) (getD check 3 0)) (sum1 p)
@@ -72,7 +72,7 @@ unfoldable pub isSentence : List ℕ → Bool
 isSentence bs =
     same bs (code "$" ∷ payloadOf bs ++ code "*" ∷ checkOf bs)
     && isPayload (payloadOf bs)
-    && gives (checkOf bs) (payloadOf bs)
+    && givesSums (checkOf bs) (payloadOf bs)
 
 -- the sentence's number, and the texts of its fields, each behind a comma
 abbrev pub numberOf : List ℕ → ℕ

@@ -88,8 +88,8 @@ fn read_values(d: &[u8]) -> Status
     }
 }
 
-// The same as twenty numbers, in the order of the fields. (They stand here a second time: numbers that are made of
-// a record wait for its bytes to be written, and a row of them is laid for each report.)
+// The same as twenty numbers, in the order of the fields. They stand here a second time beside the record's: rows made of
+// the record took calls of 16 and of 4,096 bytes a quarter to two fifths longer.
 fn numbers_at(d: &[u8]) -> [u32; 20]
     requires { ⌜ (length (now d) ≡ dataLength) × (readable (now d) ≡ true) ⌝ }
     ensures { λ r. ⌜ r ≡ statusNumbers (statusOf (now (d .entry))) ⌝ }

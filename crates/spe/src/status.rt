@@ -1,5 +1,4 @@
-// The test of a status report as a whole, which reads no field: its frame, then its data. Its helpers leave
-// no loop early and join their tests by `&` and `|`, so that the compiler tests many bytes at once.
+// The test of a status report as a whole, which reads no field: its frame, then its data.
 use crate::ends::begins_report;
 use crate::ends::ends_report;
 use rules::DATA_LENGTH;
@@ -47,8 +46,7 @@ fn spaces(marks: &[u8], d: &[u8]) -> bool
     good
 }
 
-// Whether the letter is one of a warning, and below of an alarm: without a loop, so that the compiler makes
-// one test of all letters.
+// Whether the letter is one of a warning, and below of an alarm.
 fn is_warning(b: u8) -> bool
     ensures { λ r. ⌜ r ≡ oneOf warnings b ⌝ }
 {

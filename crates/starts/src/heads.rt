@@ -1,6 +1,5 @@
 // What is known of a start before a frame is read there: a bad start with the number of bytes that settled
-// it, an undecided one, or as many bytes as a frame there has. (The frame is read by whoever wants it:
-// through here it would be copied twice.)
+// it, an undecided one, or as many bytes as a frame there has. The frame is read by whoever wants it.
 use crate::families::is_spe;
 use crate::marks::bytes_needed;
 use crate::marks::mark_of;

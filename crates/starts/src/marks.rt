@@ -55,8 +55,7 @@ pub fn longest_frame(family: u8) -> usize
     LONGEST_SENTENCE
 }
 
-// Whether a block of 16 bytes is all payload bytes. No byte ends the loop, so that it can be compiled
-// to test all of them at once.
+// Whether a block of 16 bytes is all payload bytes.
 fn all_payload(block: &[u8]) -> bool
     requires { ⌜ length (now block) ≡ 16 ⌝ }
     ensures { λ r. ⌜ r ≡ every isPayloadByte (now (block .entry)) ⌝ }

@@ -114,8 +114,8 @@ module _ (family : ℕ) (bs : List ℕ) (k n : ℕ) (f : Frame) (behind : List �
 
 -- How many bytes there are up to the one that made a frame ready behind k skipped bytes: those held, or more of those
 -- offered, as far as the bytes reach that settle its start and the starts before it.
-abbrev pub upTo : ℕ → List ℕ → List ℕ → ℕ → ℕ
-upTo family held offered k = max (length held) (reach family (suc k) (held ++ offered))
+abbrev pub takenBy : ℕ → List ℕ → List ℕ → ℕ → ℕ
+takenBy family held offered k = max (length held) (reach family (suc k) (held ++ offered))
 
 -- The answer of a call, where a frame is ready in all that is held and offered: it takes the bytes up to the p-th, which
 -- are there and hold the whole frame, and keeps those of them that are behind the frame, which have room in the held places.
@@ -128,7 +128,7 @@ pub record Jump (family : ℕ) (held offered : List ℕ) (k n : ℕ) (f : Frame)
   pub fits : length held < longest family → p - (k + n) ≤ 133
 
 module _ (family : ℕ) (held offered : List ℕ) (k n : ℕ) (f : Frame) (behind : List ℕ) (e : look (head family) (held ++ offered) ≡ ready k n f behind)
-    (p : ℕ) (up : p ≡ upTo family held offered k) where
+    (p : ℕ) (up : p ≡ takenBy family held offered k) where
   kept : List ℕ
   kept = drop (k + n) (take p (held ++ offered))
 

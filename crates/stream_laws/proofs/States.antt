@@ -88,17 +88,17 @@ unfolding fresh
 fresh-call family e = rw e
 
 -- Every call is one of five: refused by 1, 6 or 5, or a call of an open reader, or one that drains a closed reader.
-pub data Kind (r : Reader) (offered : List ℕ) : Type 0 where
-  no-family : isFamily (r .family) ≡ false → Kind r offered
-  too-much : isFamily (r .family) ≡ true → holds (r .family) < r .count → Kind r offered
-  offers-closed : isFamily (r .family) ≡ true → r .count ≤ holds (r .family) → (r .closed ≡ 0 → ⊥) → (length offered ≡ 0 → ⊥) → Kind r offered
-  feeds : isFamily (r .family) ≡ true → r .count ≤ holds (r .family) → r .closed ≡ 0 → Kind r offered
-  drains : isFamily (r .family) ≡ true → r .count ≤ holds (r .family) → (r .closed ≡ 0 → ⊥) → offered ≡ [] → Kind r offered
+pub data CallKind (r : Reader) (offered : List ℕ) : Type 0 where
+  no-family : isFamily (r .family) ≡ false → CallKind r offered
+  too-much : isFamily (r .family) ≡ true → holds (r .family) < r .count → CallKind r offered
+  offers-closed : isFamily (r .family) ≡ true → r .count ≤ holds (r .family) → (r .closed ≡ 0 → ⊥) → (length offered ≡ 0 → ⊥) → CallKind r offered
+  feeds : isFamily (r .family) ≡ true → r .count ≤ holds (r .family) → r .closed ≡ 0 → CallKind r offered
+  drains : isFamily (r .family) ≡ true → r .count ≤ holds (r .family) → (r .closed ≡ 0 → ⊥) → offered ≡ [] → CallKind r offered
 
-pub kind : (r : Reader) (offered : List ℕ) → Kind r offered
+pub kind : (r : Reader) (offered : List ℕ) → CallKind r offered
 kind r offered = go (isFamily (r .family)) (leb (r .count) (holds (r .family))) (eqb (r .closed) 0) offered refl refl refl refl
   where
-    go : (a b c : Bool) (o : List ℕ) → isFamily (r .family) ≡ a → leb (r .count) (holds (r .family)) ≡ b → eqb (r .closed) 0 ≡ c → offered ≡ o → Kind r offered
+    go : (a b c : Bool) (o : List ℕ) → isFamily (r .family) ≡ a → leb (r .count) (holds (r .family)) ≡ b → eqb (r .closed) 0 ≡ c → offered ≡ o → CallKind r offered
     go false b c o p q s t = no-family p
     go true false c o p q s t = too-much p (leb-false (r .count) (holds (r .family)) q)
     go true true true o p q s t = feeds p (leb-true (r .count) (holds (r .family)) q) (eqb-true (r .closed) 0 s)
@@ -114,7 +114,7 @@ module _ (r : Reader) (offered : List ℕ) (P : Fed → Type 0)
   by-kind : P (fed r offered)
   by-kind = go (kind r offered)
     where
-      go : Kind r offered → P (fed r offered)
+      go : CallKind r offered → P (fed r offered)
       go (no-family p) = rw (refused-1 r offered p) (on-refusal noFamily)
       go (too-much p q) = rw (refused-6 r offered p q) (on-refusal holdsTooMuch)
       go (offers-closed p q s t) = rw (refused-5 r offered p q s t) (on-refusal isClosed)
@@ -269,7 +269,7 @@ module _ (r : Reader) (held : List ℕ) (used : heldOf (withHeld r held) ≡ hel
   closed-same (ready k n f behind) = refl
   closed-same (waiting k rest) = refl
 
-  same-by-kind : Kind r offered → SameCall (fed r offered) (fed (withHeld r held) offered)
+  same-by-kind : CallKind r offered → SameCall (fed r offered) (fed (withHeld r held) offered)
   same-by-kind (no-family p) = both-refused noFamily (refused-1 r offered p) (refused-1 (withHeld r held) offered p)
   same-by-kind (too-much p q) = both-refused holdsTooMuch (refused-6 r offered p q) (refused-6 (withHeld r held) offered p q)
   same-by-kind (offers-closed p q s t) = both-refused isClosed (refused-5 r offered p q s t) (refused-5 (withHeld r held) offered p q s t)
@@ -323,7 +323,7 @@ shut-twice r = go (kind r [])
         ∙ ap (λ (l : List ℕ). record { reader = holding (r .family) 1 l (r .at) (r .skipped); outcome = Accepted }) (held-of-holding (r .family) 1 bytes (r .at) (r .skipped))
         ∙ sym (shut-call r p q)
 
-    go : Kind r [] → shut ((shut r) .reader) ≡ shut r
+    go : CallKind r [] → shut ((shut r) .reader) ≡ shut r
     go (no-family p) = as-before (record { reader = r; outcome = NotAccepted noFamily }) (shut-1 r p) refl
     go (too-much p q) = as-before (record { reader = r; outcome = NotAccepted holdsTooMuch }) (shut-6 r p q) refl
     go (offers-closed p q s t) = accepted p q

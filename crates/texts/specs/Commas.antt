@@ -8,13 +8,13 @@ use lib.ListN.{drop}
 use Rattle.rules.specs.Bytes.{part}
 
 -- how many bytes stand before the first comma
-unfoldable pub upTo : List ℕ → ℕ
-upTo [] = 0
-upTo (b ∷ bs) = cond (eqb b (code ",")) 0 (suc (upTo bs))
+unfoldable pub toComma : List ℕ → ℕ
+toComma [] = 0
+toComma (b ∷ bs) = cond (eqb b (code ",")) 0 (suc (toComma bs))
 
 -- the text of the field whose comma stands at place a, and where it ends
 abbrev pub textAt : ℕ → List ℕ → List ℕ
-textAt a r = part (a + 1) (upTo (drop (a + 1) r)) r
+textAt a r = part (a + 1) (toComma (drop (a + 1) r)) r
 
 abbrev pub endAt : ℕ → List ℕ → ℕ
-endAt a r = a + 1 + upTo (drop (a + 1) r)
+endAt a r = a + 1 + toComma (drop (a + 1) r)

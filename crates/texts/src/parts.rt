@@ -58,8 +58,7 @@ pub fn same_bytes(s: &[u8], t: &[u8]) -> bool
     true
 }
 
-// Whether each byte is from the least to the most for its place. The loop runs to the end, so that the
-// compiler compares many bytes at once.
+// Whether each byte is from the least to the most for its place.
 pub fn within(least: &[u8], most: &[u8], s: &[u8]) -> bool
     ensures { λ r. ⌜ r ≡ inBounds (now (least .entry)) (now (most .entry)) (now (s .entry)) ⌝ }
 {

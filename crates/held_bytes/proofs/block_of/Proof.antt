@@ -1,4 +1,4 @@
--- `places::block_of` meets its contract. The loop's invariant: the first i bytes are copied in from the front on. The measure is what is
+-- `held_bytes::block_of` meets its contract. The loop's invariant: the first i bytes are copied in from the front on. The measure is what is
 -- left of the sixteen.
 -- Assumes nothing.
 use Prim.Native.Nat.{ℕ, _+_, _-_, _≤_, _<_}

@@ -1,4 +1,4 @@
--- `places::clear` meets its contract: where nothing is written, zeros are there already.
+-- `held_bytes::clear` meets its contract: where nothing is written, zeros are there already.
 -- Assumes nothing.
 use borrow.Author.Needs.{needs}
 use borrow.Author.Tests.{not-false}

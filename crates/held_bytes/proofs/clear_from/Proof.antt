@@ -1,4 +1,4 @@
--- `places::clear_from` meets its contract. The loop's invariant: zeros are laid from the place `from` on. The measure is
+-- `held_bytes::clear_from` meets its contract. The loop's invariant: zeros are laid from the place `from` on. The measure is
 -- what is left of the places.
 -- Assumes nothing.
 use Prim.Native.Nat.{ℕ, _+_, _-_, _≤_, _<_}

@@ -1,4 +1,4 @@
--- `places::keep_part` meets its contract: from the front zeros are put behind it, and else it is laid at the front of zeros.
+-- `held_bytes::keep_part` meets its contract: from the front zeros are put behind it, and else it is laid at the front of zeros.
 -- Assumes nothing.
 use Prim.Native.Nat.{ℕ}
 use mathlib.Core.Path.{sym, ap, _∙_}

@@ -1,4 +1,4 @@
--- `places::lay` meets its contract: both ways lay the bytes, and where sixteen have no room, nothing is laid.
+-- `held_bytes::lay` meets its contract: both ways lay the bytes, and where sixteen have no room, nothing is laid.
 -- Assumes nothing.
 use mathlib.Core.Path.{sym}
 use native.Mathlib.Omega.{arith}

@@ -1,4 +1,4 @@
--- `places::put_block` meets its contract. The loop's invariant: the first i bytes are copied in from `at` on. The measure is what is left
+-- `held_bytes::put_block` meets its contract. The loop's invariant: the first i bytes are copied in from `at` on. The measure is what is left
 -- of the sixteen; all of them pasted are the bytes laid.
 -- Assumes nothing.
 use Prim.Native.Nat.{ℕ, _+_, _-_, _≤_}

@@ -2,7 +2,7 @@
 // frame's bytes. Sentences have no such way.
 use held_bytes::clear;
 use rows::COMMAND_ROW;
-use rows::lay_head;
+use rows::lay_heading;
 use rows::read_row;
 use rules::COMMANDS;
 use rules::PACKET_LENGTH;
@@ -57,7 +57,7 @@ fn front_command(
     if !is_command(&offered[..PACKET_LENGTH]) {
         return 0;
     }
-    lay_head(
+    lay_heading(
         COMMAND_ROW,
         offered[4] as u32,
         PACKET_LENGTH,

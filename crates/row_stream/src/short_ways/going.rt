@@ -5,7 +5,7 @@ use crate::left_so;
 use held_bytes::keep_part;
 use held_bytes::lay;
 use rows::MORE_ROW;
-use rows::lay_head;
+use rows::lay_heading;
 use rules::LONGEST_PAYLOAD;
 use rules::REPLIES;
 use rules::REPORT_LENGTH;
@@ -83,6 +83,6 @@ pub(crate) fn feed_on(
     let all = used + others.len();
     lay(held, used, others);
     keep_part(held, 0, all);
-    lay_head(MORE_ROW, 0, others.len(), 0, 0, 0, numbers);
+    lay_heading(MORE_ROW, 0, others.len(), 0, 0, 0, numbers);
     left_so(0, all as u8, at, skipped)
 }

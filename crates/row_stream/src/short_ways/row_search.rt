@@ -2,7 +2,7 @@
 // stop that it came to, with how far the call takes bytes: a frame's start and length, up to what settled it, but no
 // less than was held; or the first undecided start, the length 0, and all the bytes.
 use rows::MORE_ROW;
-use rows::lay_head;
+use rows::lay_heading;
 use rows::read_row;
 use rules::REPLIES;
 use rules::REPORT_LENGTH;
@@ -51,7 +51,7 @@ fn lay_waiting(all: usize, count: usize, from: usize, numbers: &mut [i64]) -> St
     requires { ⌜ (count ≤ all) × (longestRow ≤ length (now numbers)) ⌝ }
     ensures { λ p. ⌜ LaysSought all count 0 0 (Waiting from) (now (numbers .entry)) p (now (numbers .exit)) ⌝ }
 {
-    lay_head(MORE_ROW, 0, all - count, 0, 0, 0, numbers);
+    lay_heading(MORE_ROW, 0, all - count, 0, 0, 0, numbers);
     Stop {
         at: from,
         length: 0,

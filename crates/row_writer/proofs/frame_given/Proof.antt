@@ -1,10 +1,10 @@
--- `given::frame_given` meets its contract: the kind picks the frame, and a code that it holds is a byte.
+-- `row_writer::frame_given` meets its contract: the kind picks the frame, and a code that it holds is a byte.
 -- Assumes nothing.
 use mathlib.Core.Path.{sym, ap, _∙_}
 use native.Mathlib.Omega.{arith}
 use borrow.Author.Needs.{needs}
 use Rattle.rules.specs.declared.Frame.the-variants.{Status}
-use Rattle.row_writer.proofs.Frames.{held, dropped, as-ack, as-status, as-command, as-sentence, no-kind, ack-byte, command-byte}
+use Rattle.row_writer.proofs.Frames.{chosen, dropped, as-ack, as-status, as-command, as-sentence, no-kind, ack-byte, command-byte}
 use Rattle.row_writer.proofs.frame_given.Statement.{statement}
 use Rattle.row_writer.proofs.frame_given.Tie as tie
 
@@ -21,7 +21,7 @@ status-from-requires : tie.Need-status-from-requires
 status-from-requires c κs = search needs
 
 returns-2 : tie.Need-returns-2
-returns-2 c = held (sym (c .before .before .is-status-row .ensures) ∙ c .before .if3 .taken) (ap Status (c .status-from .ensures)) ∙ as-status _ _ _ (c .before .before .before .if2 .taken)
+returns-2 c = chosen (sym (c .before .before .is-status-row .ensures) ∙ c .before .if3 .taken) (ap Status (c .status-from .ensures)) ∙ as-status _ _ _ (c .before .before .before .if2 .taken)
 
 returns-3 : tie.Need-returns-3
 returns-3 c = dropped _ (sym (c .before .is-status-row .ensures) ∙ c .if3 .left) ∙ as-status _ _ _ (c .before .before .if2 .taken)

@@ -1,9 +1,9 @@
--- `given::sentence_given` meets its contract: the number picks the record, and the row has to fit it.
+-- `row_writer::sentence_given` meets its contract: the number picks the record, and the row has to fit it.
 -- Assumes nothing.
 use mathlib.Core.Path.{sym, ap, _∙_}
 use borrow.Author.Needs.{needs}
 use Rattle.rules.specs.declared.Frame.the-variants.{Apa02, Apa03, Apa05}
-use Rattle.row_writer.proofs.Frames.{held, dropped, as02, as03, as05, as-none}
+use Rattle.row_writer.proofs.Frames.{chosen, dropped, as02, as03, as05, as-none}
 use Rattle.row_writer.proofs.sentence_given.Statement.{statement}
 use Rattle.row_writer.proofs.sentence_given.Tie as tie
 
@@ -14,7 +14,7 @@ from02-requires : tie.Need-from02-requires
 from02-requires c κs = search needs
 
 returns : tie.Need-returns
-returns c = held (sym (c .before .before .is-row02 .ensures) ∙ c .before .if2 .taken) (ap Apa02 (c .from02 .ensures)) ∙ as02 _ _ (c .before .before .before .if1 .taken)
+returns c = chosen (sym (c .before .before .is-row02 .ensures) ∙ c .before .if2 .taken) (ap Apa02 (c .from02 .ensures)) ∙ as02 _ _ (c .before .before .before .if1 .taken)
 
 returns-2 : tie.Need-returns-2
 returns-2 c = dropped _ (sym (c .before .is-row02 .ensures) ∙ c .if2 .left) ∙ as02 _ _ (c .before .before .if1 .taken)
@@ -26,7 +26,7 @@ from03-requires : tie.Need-from03-requires
 from03-requires c κs = search needs
 
 returns-3 : tie.Need-returns-3
-returns-3 c = held (sym (c .before .before .is-row03 .ensures) ∙ c .before .if4 .taken) (ap Apa03 (c .from03 .ensures)) ∙ as03 _ _ (c .before .before .before .if3 .taken)
+returns-3 c = chosen (sym (c .before .before .is-row03 .ensures) ∙ c .before .if4 .taken) (ap Apa03 (c .from03 .ensures)) ∙ as03 _ _ (c .before .before .before .if3 .taken)
 
 returns-4 : tie.Need-returns-4
 returns-4 c = dropped _ (sym (c .before .is-row03 .ensures) ∙ c .if4 .left) ∙ as03 _ _ (c .before .before .if3 .taken)
@@ -38,7 +38,7 @@ from05-requires : tie.Need-from05-requires
 from05-requires c κs = search needs
 
 returns-5 : tie.Need-returns-5
-returns-5 c = held (sym (c .before .before .is-row05 .ensures) ∙ c .before .if6 .taken) (ap Apa05 (c .from05 .ensures)) ∙ as05 _ _ (c .before .before .before .if5 .taken)
+returns-5 c = chosen (sym (c .before .before .is-row05 .ensures) ∙ c .before .if6 .taken) (ap Apa05 (c .from05 .ensures)) ∙ as05 _ _ (c .before .before .before .if5 .taken)
 
 returns-6 : tie.Need-returns-6
 returns-6 c = dropped _ (sym (c .before .is-row05 .ensures) ∙ c .if6 .left) ∙ as05 _ _ (c .before .before .if5 .taken)

@@ -1,4 +1,4 @@
--- `given::write_enable_given` meets its contract: the writer's answer is told as numbers.
+-- `row_writer::write_enable_given` meets its contract: the writer's answer is told as numbers.
 -- Assumes nothing.
 use borrow.Author.Needs.{needs}
 use Rattle.row_writer.proofs.Answers.{told}

@@ -1,4 +1,4 @@
--- `given::write_frame` meets its contract: each kind of frame goes to its writer.
+-- `row_writer::write_frame` meets its contract: each kind of frame goes to its writer.
 -- Assumes nothing.
 use mathlib.Core.Path.{refl}
 use borrow.Author.Needs.{needs}

@@ -1,4 +1,4 @@
--- `given::write_given` meets its contract: a code that is no byte is refused, and else the frame is written as it is given.
+-- `row_writer::write_given` meets its contract: a code that is no byte is refused, and else the frame is written as it is given.
 -- Assumes nothing.
 use borrow.Author.Needs.{needs}
 use mathlib.Core.Path.{sym}

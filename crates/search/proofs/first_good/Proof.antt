@@ -1,4 +1,4 @@
--- `seek::first_good` meets its contract. The loop's invariant: no start from `from` on and before the stop is good, and what
+-- `search::first_good` meets its contract. The loop's invariant: no start from `from` on and before the stop is good, and what
 -- stands at the stop. The measure is what is left of the bytes.
 -- Assumes nothing.
 use Prim.Native.Nat.{ℕ, _+_, _-_, _≤_, _<_}

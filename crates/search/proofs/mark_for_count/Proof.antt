@@ -1,4 +1,4 @@
--- `seek::mark_for_count` meets its contract, by its two tests.
+-- `search::mark_for_count` meets its contract, by its two tests.
 -- Assumes nothing.
 use Prim.Native.Nat.{ℕ}
 use mathlib.Core.Path.{_≡_}

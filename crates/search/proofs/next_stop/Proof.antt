@@ -1,4 +1,4 @@
--- `seek::next_stop` meets its contract: the walk of the family does.
+-- `search::next_stop` meets its contract: the walk of the family does.
 -- Assumes nothing.
 use mathlib.Core.Path.{sym, _∙_}
 use borrow.Author.Needs.{needs}

@@ -1,4 +1,4 @@
--- `seek::no_mark` meets its contract. The loop's invariant: where none is found so far, the bytes before i are no marks. The measure is
+-- `search::no_mark` meets its contract. The loop's invariant: where none is found so far, the bytes before i are no marks. The measure is
 -- what is left of 16.
 -- Assumes nothing.
 use Prim.Native.Nat.{ℕ, _+_, _-_, _≤_}

@@ -1,4 +1,4 @@
--- `seek::packet_stop` meets its contract. The loop's invariant is the walk so far. The measure is what is left of the bytes.
+-- `search::packet_stop` meets its contract. The loop's invariant is the walk so far. The measure is what is left of the bytes.
 -- Assumes nothing.
 use Prim.Native.Nat.{ℕ, _+_, _-_, _≤_, _<_}
 use mathlib.Core.Path.{_≡_, sym, ap, subst, _∙_}

@@ -1,4 +1,4 @@
--- `seek::past_unmarked` meets its contract. The loop's invariant: from the place on, no byte passed is a mark. The measure is what is left of
+-- `search::past_unmarked` meets its contract. The loop's invariant: from the place on, no byte passed is a mark. The measure is what is left of
 -- the bytes.
 -- Assumes nothing.
 use Prim.Native.Nat.{ℕ, _+_, _-_, _≤_}

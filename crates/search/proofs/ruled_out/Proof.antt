@@ -1,4 +1,4 @@
--- `seek::ruled_out` meets its contract: what fails its tests fails those of a good frame.
+-- `search::ruled_out` meets its contract: what fails its tests fails those of a good frame.
 -- Assumes nothing.
 use mathlib.Core.Path.{sym, _∙_}
 use borrow.Author.Needs.{needs}

@@ -1,4 +1,4 @@
--- `seek::seek` meets its contract. The loop's invariant: the walk from the first start on has come to the stop. The measure is
+-- `search::seek` meets its contract. The loop's invariant: the walk from the first start on has come to the stop. The measure is
 -- what is left of the bytes.
 -- Assumes nothing.
 use Prim.Native.Nat.{ℕ, _-_, _≤_, _<_}

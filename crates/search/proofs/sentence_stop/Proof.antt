@@ -1,4 +1,4 @@
--- `seek::sentence_stop` meets its contract. The loop's invariant is the walk so far, in which nothing is counted: no start reaches
+-- `search::sentence_stop` meets its contract. The loop's invariant is the walk so far, in which nothing is counted: no start reaches
 -- behind a later frame. The measure is what is left of the bytes.
 -- Assumes nothing.
 use Prim.Native.Nat.{ℕ, _+_, _-_, _≤_, _<_}

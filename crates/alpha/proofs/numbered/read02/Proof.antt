@@ -1,4 +1,4 @@
--- `alpha::records::read02` meets its contract: a row of thirteen decimal fields with nothing behind it is what the rules
+-- `alpha::numbered::read02` meets its contract: a row of thirteen decimal fields with nothing behind it is what the rules
 -- ask of the texts, and its numbers are the record's. Assumes nothing.
 use mathlib.Core.Path.{_≡_, refl, sym, _∙_, ap}
 use mathlib.Core.Bool.{true}

@@ -1,4 +1,4 @@
--- `alpha::records::read03` meets its contract: a row of eight decimal fields, a temperature and nothing behind it is what
+-- `alpha::numbered::read03` meets its contract: a row of eight decimal fields, a temperature and nothing behind it is what
 -- the rules ask of the texts, and their values are the record's. Assumes nothing.
 use mathlib.Core.Path.{_≡_, refl, sym, _∙_, ap}
 use mathlib.Core.Bool.{true}

@@ -1,4 +1,4 @@
--- `alpha::records::read05` meets its contract: a row of seven fields of two hexadecimal digits with nothing behind it is
+-- `alpha::numbered::read05` meets its contract: a row of seven fields of two hexadecimal digits with nothing behind it is
 -- what the rules ask of the texts; a shift by 4 divides by 16, and a mask of 15 leaves the remainder. Assumes nothing.
 use mathlib.Core.Path.{ap}
 use borrow.Author.Needs.{needs}

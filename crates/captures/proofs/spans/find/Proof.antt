@@ -1,4 +1,4 @@
--- `finds::find` meets its contract. The loop's invariant: what is wanted is the first wanted of the frames that are left.
+-- `captures::spans::find` meets its contract. The loop's invariant: what is wanted is the first wanted of the frames that are left.
 -- The measure is what is left of the capture.
 -- Assumes nothing.
 use Prim.Native.Nat.{ℕ, _+_, _-_}
@@ -19,7 +19,7 @@ use Rattle.rules.proofs.Frame.{the-type}
 use Rattle.stream_rules.specs.Lister.{fits}
 use Rattle.lister.proofs.Walk.{left, Next, next, no-next, at-end}
 use Rattle.captures.specs.declared.spans.Span.{Span}
-use Rattle.captures.specs.Finds.{isReport, given, nothing, firstWanted, nextIn}
+use Rattle.captures.specs.Finds.{isReport, spanOf, nothing, firstWanted, nextIn}
 use Rattle.captures.proofs.spans.find.Statement.{statement}
 use Rattle.captures.proofs.spans.find.Tie as tie
 

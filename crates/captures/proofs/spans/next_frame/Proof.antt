@@ -1,4 +1,4 @@
--- `lister::next_frame` meets its contract: the part is that of the span which `find` gives where any frame is wanted, and this is what the
+-- `captures::spans::next_frame` meets its contract: the part is that of the span which `find` gives where any frame is wanted, and this is what the
 -- lister's second entry gives.
 -- Assumes nothing.
 use mathlib.Core.Path.{_≡_, sym, ap, subst, _∙_}

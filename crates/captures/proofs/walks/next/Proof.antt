@@ -1,4 +1,4 @@
--- `captures::next` meets its contract: a walk of its MIR, by hand. The borrow of the reader is opened, `find` is called on the slice and the place that the reader holds, the place behind the span is stored beside the slice, and the borrow is closed at the reader with that place. Then `text` is called on the slice and the span, and what it returns is handed back.
+-- `captures::walks::next` meets its contract: a walk of its MIR, by hand. The borrow of the reader is opened, `find` is called on the slice and the place that the reader holds, the place behind the span is stored beside the slice, and the borrow is closed at the reader with that place. Then `text` is called on the slice and the span, and what it returns is handed back.
 -- A `CaptureReader` is Copy: what it owns is had twice. One copy goes back into the borrow, with the facts of the new place. Of the other what the slice owns is taken, once for each call, beside the token of 'a, which comes back. All that the proof knows of `find` and of `text` is that each meets its contract.
 -- Assumes nothing.
 use mathlib.Core.Path.{_≡_, refl, ap}

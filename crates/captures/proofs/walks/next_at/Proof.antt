@@ -1,4 +1,4 @@
--- `captures::next_at` meets its contract: a walk of its MIR, by hand. The reader that `reader_at` makes is held in a local, the local is lent to `next` by `&mut` for a lifetime that is made for the call, and it comes back at the reader that `next` leaves; the place that it has reached is stored behind the `&mut usize` that the caller lent, and the part is handed back.
+-- `captures::walks::next_at` meets its contract: a walk of its MIR, by hand. The reader that `reader_at` makes is held in a local, the local is lent to `next` by `&mut` for a lifetime that is made for the call, and it comes back at the reader that `next` leaves; the place that it has reached is stored behind the `&mut usize` that the caller lent, and the part is handed back.
 -- All that the proof knows of `reader_at` and of `next` is that each meets its contract.
 -- `next` asks that the capture's lifetime outlive the loan's. So the loan's is the meet of a new lifetime with the capture's: its token is made of a part of the new one's and of half of the capture's (`tok-make`), and after the call both are had whole again (`tok-back`).
 -- The caller's `&mut usize` is opened before its number is read, and closed once the new number is stored.

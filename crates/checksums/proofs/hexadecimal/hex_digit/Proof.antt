@@ -1,4 +1,4 @@
--- `hex::hex_digit` meets its contract: the table has the number of each byte. Assumes nothing.
+-- `checksums::hexadecimal::hex_digit` meets its contract: the table has the number of each byte. Assumes nothing.
 use borrow.Author.Needs.{needs}
 use Rattle.checksums.proofs.hexadecimal.hex_digit.Statement.{statement}
 use Rattle.checksums.proofs.hexadecimal.hex_digit.Tie as tie

@@ -1,4 +1,4 @@
--- `hex::hex_pair` meets its contract: the constant is a table of digits. Assumes nothing.
+-- `checksums::hexadecimal::hex_pair` meets its contract: the constant is a table of digits. Assumes nothing.
 use borrow.Author.Needs.{needs}
 use Rattle.checksums.proofs.Digits.{of-digits}
 use Rattle.checksums.proofs.hexadecimal.hex_pair.Statement.{statement}

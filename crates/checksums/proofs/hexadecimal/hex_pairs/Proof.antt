@@ -1,4 +1,4 @@
--- `hex::hex_pairs` meets its contract: the constant is a table of digits, and two pairs are found in it.
+-- `checksums::hexadecimal::hex_pairs` meets its contract: the constant is a table of digits, and two pairs are found in it.
 -- Assumes nothing.
 use Rattle.checksums.proofs.Digits.{of-digits}
 use Rattle.checksums.proofs.hexadecimal.hex_pairs.Statement.{statement}

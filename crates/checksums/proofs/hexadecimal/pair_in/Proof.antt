@@ -1,11 +1,11 @@
--- `hex::pair_in` meets its contract: each number found is below 16 and its digit's, and 16 tells that there is none.
+-- `checksums::hexadecimal::pair_in` meets its contract: each number found is below 16 and its digit's, and 16 tells that there is none.
 -- Assumes nothing.
 use mathlib.Core.Path.{sym, _∙_}
 use mathlib.Core.Bool.{and-false}
 use native.Mathlib.Omega.{arith}
 use borrow.Author.Needs.{needs}
 use Rattle.checksums.specs.Hex.{pairIn}
-use Rattle.checksums.proofs.Digits.{Found, is-none, is-found}
+use Rattle.checksums.proofs.Digits.{DigitFound, is-none, is-found}
 use Rattle.checksums.proofs.hexadecimal.pair_in.Statement.{statement}
 use Rattle.checksums.proofs.hexadecimal.pair_in.Tie as tie
 
@@ -23,7 +23,7 @@ returns-2 : tie.Need-returns-2
 unfolding pairIn
 returns-2 c = simp (is-none _ (sym (c .before .before .hex-digit2 .ensures) ∙ c .if2 .taken), and-false)
 
-both : (c : tie.Else2) → Found (c .before .before .before .before .args .upper) (c .before .before .before .hex-digit .result) × Found (c .before .before .before .before .args .lower) (c .before .before .hex-digit2 .result)
+both : (c : tie.Else2) → DigitFound (c .before .before .before .before .args .upper) (c .before .before .before .hex-digit .result) × DigitFound (c .before .before .before .before .args .lower) (c .before .before .hex-digit2 .result)
 both c = (
   rw (c .before .before .before .hex-digit .ensures) (is-found _ (λ e. c .before .if1 .left (c .before .before .before .hex-digit .ensures ∙ e))),
   rw (c .before .before .hex-digit2 .ensures) (is-found _ (λ e. c .if2 .left (c .before .before .hex-digit2 .ensures ∙ e))),

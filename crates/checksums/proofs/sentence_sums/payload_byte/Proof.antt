@@ -1,4 +1,4 @@
--- `fletcher::payload_byte` meets its contract: its tests are those of the definition. Assumes nothing.
+-- `checksums::sentence_sums::payload_byte` meets its contract: its tests are those of the definition. Assumes nothing.
 use mathlib.Core.Path.{refl}
 use Rattle.rules.specs.Sentences.{isPayloadByte}
 use Rattle.checksums.proofs.sentence_sums.payload_byte.Statement.{statement}

@@ -1,4 +1,4 @@
--- `feeding::drain` meets its contract: the first good frame of the held bytes is what a look at close finds.
+-- `held_bytes::feeding::drain` meets its contract: the first good frame of the held bytes is what a look at close finds.
 -- Assumes nothing.
 use Prim.Native.Nat.{ℕ, _+_, _-_, _≤_}
 use mathlib.Core.Path.{_≡_, sym, ap, _∙_}

@@ -1,4 +1,4 @@
--- `feeding::feed_places` meets its contract: its tests are the refusals, in their order; behind them an advance is the call, and a drain the
+-- `held_bytes::feeding::feed_places` meets its contract: its tests are the refusals, in their order; behind them an advance is the call, and a drain the
 -- look at close. That the test of the places fails is what the contract takes for granted.
 -- Assumes nothing.
 use Prim.Native.Nat.{ℕ, _≤_, _<_}

@@ -1,4 +1,4 @@
--- `moves::done` meets its contract: nothing is kept, and both counts go on by what was skipped.
+-- `held_bytes::moves::done` meets its contract: nothing is kept, and both counts go on by what was skipped.
 -- Assumes nothing.
 use borrow.Author.Needs.{needs}
 use Rattle.stream_rules.specs.declared.Answer.the-variants.{Done}

@@ -1,4 +1,4 @@
--- `moves::handed_out` meets its contract: its three sums are those of counts that wrap.
+-- `held_bytes::moves::handed_out` meets its contract: its three sums are those of counts that wrap.
 -- Assumes nothing.
 use Rattle.stream_rules.specs.declared.Answer.the-variants.{Ready}
 use borrow.Author.Needs.{needs}

@@ -1,4 +1,4 @@
--- `moves::wants` meets its contract: both counts go on by what was passed.
+-- `held_bytes::moves::wants` meets its contract: both counts go on by what was passed.
 -- Assumes nothing.
 use Rattle.stream_rules.specs.declared.Answer.the-variants.{More}
 use borrow.Author.Needs.{needs}

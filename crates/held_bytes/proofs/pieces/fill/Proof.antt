@@ -1,4 +1,4 @@
--- `pieces::fill` meets its contract: the bytes are laid at the front of zeros.
+-- `held_bytes::pieces::fill` meets its contract: the bytes are laid at the front of zeros.
 -- Assumes nothing.
 use mathlib.Core.Path.{_∙_}
 use Rattle.held_bytes.proofs.Buffers.{fills}

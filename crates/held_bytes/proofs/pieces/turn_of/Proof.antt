@@ -1,4 +1,4 @@
--- `pieces::turn_of` meets its contract: what the search has found is what the call says, and what is laid into the places what it keeps.
+-- `held_bytes::pieces::turn_of` meets its contract: what the search has found is what the call says, and what is laid into the places what it keeps.
 -- Assumes nothing.
 use Prim.Native.Nat.{ℕ, max, _+_, _-_, _≤_}
 use mathlib.Core.Path.{_≡_, refl, sym, ap, _∙_}

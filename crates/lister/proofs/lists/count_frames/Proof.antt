@@ -1,4 +1,4 @@
--- `lister::count_frames` meets its contract: the number of starts does not depend on the list.
+-- `lister::lists::count_frames` meets its contract: the number of starts does not depend on the list.
 -- Assumes nothing.
 use borrow.Author.Needs.{needs}
 use Rattle.lister.proofs.lists.count_frames.Statement.{statement}

@@ -1,4 +1,4 @@
--- `lister::fill_replies` meets its contract. The loop's invariant: n starts are found, and those of the frames left from `at` on
+-- `lister::lists::fill_replies` meets its contract. The loop's invariant: n starts are found, and those of the frames left from `at` on
 -- are to come. The measure is what is left of the capture.
 -- Assumes nothing.
 use Prim.Native.Nat.{ℕ, _+_, _-_, _≤_}

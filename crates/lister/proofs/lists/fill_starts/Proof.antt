@@ -1,4 +1,4 @@
--- `lister::fill_starts` meets its contract: the tests of the family pick the walk.
+-- `lister::lists::fill_starts` meets its contract: the tests of the family pick the walk.
 -- Assumes nothing.
 use Prim.Native.Nat.{ℕ}
 use mathlib.Core.Path.{_≡_}

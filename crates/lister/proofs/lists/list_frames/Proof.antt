@@ -1,4 +1,4 @@
--- `lister::list_frames` meets its contract: its three tests are the refusals, in their order.
+-- `lister::lists::list_frames` meets its contract: its three tests are the refusals, in their order.
 -- Assumes nothing.
 use Prim.Native.Nat.{ℕ, _/_, _≤_}
 use mathlib.Core.Path.{_≡_, sym, ap, _∙_}

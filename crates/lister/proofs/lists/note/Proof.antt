@@ -1,4 +1,4 @@
--- `lister::note` meets its contract: where the list has no such place, nothing is to be set.
+-- `lister::lists::note` meets its contract: where the list has no such place, nothing is to be set.
 -- Assumes nothing.
 use mathlib.Core.Path.{sym}
 use borrow.Author.Needs.{needs}

@@ -1,4 +1,4 @@
--- `show::coded` meets its contract: the word, and the two digits behind it.
+-- `listings::kinds::coded` meets its contract: the word, and the two digits behind it.
 -- Assumes nothing.
 use borrow.Author.Needs.{needs}
 use Rattle.lines.proofs.Typed.{_then_}

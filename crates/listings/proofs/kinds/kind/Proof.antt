@@ -1,4 +1,4 @@
--- `listings::kind` meets its contract: each kind of frame has its word, and behind it the code or the number.
+-- `listings::kinds::kind` meets its contract: each kind of frame has its word, and behind it the code or the number.
 -- Assumes nothing.
 use Rattle.listings.specs.Kinds.{kindTexts}
 use borrow.Author.Needs.{needs}

@@ -1,4 +1,4 @@
--- `show::sentence` meets its contract: the two digits are those of the number below a hundred.
+-- `listings::kinds::sentence` meets its contract: the two digits are those of the number below a hundred.
 -- Assumes nothing.
 use native.Mathlib.Nat.{div-one}
 use borrow.Author.Needs.{needs}

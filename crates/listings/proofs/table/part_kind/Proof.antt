@@ -1,4 +1,4 @@
--- `printing::part_kind` meets its contract: the two cases of the reader's answer are those of its texts.
+-- `listings::table::part_kind` meets its contract: the two cases of the reader's answer are those of its texts.
 -- Assumes nothing.
 use Prim.Native.Nat.{ℕ}
 use mathlib.Core.Path.{_≡_, sym, _∙_}

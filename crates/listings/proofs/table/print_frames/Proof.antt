@@ -1,4 +1,4 @@
--- `printing::print_frames` ends: each turn goes on to the next start.
+-- `listings::table::print_frames` ends: each turn goes on to the next start.
 -- Assumes nothing.
 use Prim.Native.Nat.{_-_, _≤_}
 use native.Mathlib.Omega.{arith}

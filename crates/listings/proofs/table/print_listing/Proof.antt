@@ -1,4 +1,4 @@
--- `printing::print_listing`: the lister never counts more starts than it has places for.
+-- `listings::table::print_listing`: the lister never counts more starts than it has places for.
 -- Assumes nothing.
 use native.Mathlib.Omega.{arith}
 use borrow.Author.Needs.{needs}

@@ -1,4 +1,4 @@
--- `fields::of_02` meets its contract: the fields stand in their order.
+-- `records::fields::of_02` meets its contract: the fields stand in their order.
 -- Assumes nothing.
 use borrow.Author.Needs.{needs}
 use Rattle.rules.specs.Sentences.{numbers02}

@@ -1,4 +1,4 @@
--- `fields::of_03` meets its contract: the fields stand in their order.
+-- `records::fields::of_03` meets its contract: the fields stand in their order.
 -- Assumes nothing.
 use borrow.Author.Needs.{needs}
 use Rattle.rules.specs.Sentences.{numbers03}

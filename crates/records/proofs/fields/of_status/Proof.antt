@@ -1,4 +1,4 @@
--- `fields::of_status` meets its contract: a byte fits a wider number, and the fields stand in their order.
+-- `records::fields::of_status` meets its contract: a byte fits a wider number, and the fields stand in their order.
 -- Assumes nothing.
 use native.Mathlib.Omega.{arith}
 use borrow.Author.Needs.{needs}

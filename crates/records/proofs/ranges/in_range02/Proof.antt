@@ -1,4 +1,4 @@
--- `ranges::in_range02` meets its contract: its tests are those of the definition, those of the widths one after the
+-- `records::ranges::in_range02` meets its contract: its tests are those of the definition, those of the widths one after the
 -- other. Assumes nothing.
 use mathlib.Core.Path.{ap}
 use mathlib.Core.Bool.{Bool, true, _&&_}

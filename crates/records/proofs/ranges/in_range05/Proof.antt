@@ -1,4 +1,4 @@
--- `ranges::in_range05` meets its contract: its tests are those of the definition, and the last three fields are bytes.
+-- `records::ranges::in_range05` meets its contract: its tests are those of the definition, and the last three fields are bytes.
 -- Assumes nothing.
 use Prim.Native.Nat.{ℕ, _≤_}
 use native.Mathlib.Omega.{arith}

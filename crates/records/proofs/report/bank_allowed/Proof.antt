@@ -1,4 +1,4 @@
--- `spe_rules::bank_allowed` meets its contract: the test of the ID picks the letters.
+-- `records::report::bank_allowed` meets its contract: the test of the ID picks the letters.
 -- Assumes nothing.
 use mathlib.Core.Bool.{Bool, cond}
 use mathlib.Core.Path.{ap, sym, _∙_}

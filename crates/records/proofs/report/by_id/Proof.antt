@@ -1,4 +1,4 @@
--- `spe_rules::by_id` meets its contract: the test of the ID picks the limit.
+-- `records::report::by_id` meets its contract: the test of the ID picks the limit.
 -- Assumes nothing.
 use borrow.Author.Tests.{eq-eqb, ne-eqb}
 use Rattle.records.proofs.report.by_id.Statement.{statement}

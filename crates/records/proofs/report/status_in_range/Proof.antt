@@ -1,4 +1,4 @@
--- `spe_rules::status_in_range` meets its contract: its tests are the rules, one by one and in their order.
+-- `records::report::status_in_range` meets its contract: its tests are the rules, one by one and in their order.
 -- Assumes nothing.
 use mathlib.Core.Bool.{_&&_}
 use borrow.Author.Needs.{needs}

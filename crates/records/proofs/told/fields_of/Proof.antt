@@ -1,4 +1,4 @@
--- `records::fields_of` meets its contract: each kind of frame has its own values.
+-- `records::told::fields_of` meets its contract: each kind of frame has its own values.
 -- Assumes nothing.
 use mathlib.Core.Path.{_∙_}
 use borrow.Author.Needs.{needs}

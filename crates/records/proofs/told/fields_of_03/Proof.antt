@@ -1,4 +1,4 @@
--- `records::fields_of_03` meets its contract: the temperature stands behind the record's other numbers.
+-- `records::told::fields_of_03` meets its contract: the temperature stands behind the record's other numbers.
 -- Assumes nothing.
 use mathlib.Core.List.{[], _∷_, _++_, map}
 use mir.Syntax.{w32, w64}

@@ -1,4 +1,4 @@
--- `records::with_numbers` meets its contract. The loop's invariant: the first i numbers are laid at the front of the places,
+-- `records::told::with_numbers` meets its contract. The loop's invariant: the first i numbers are laid at the front of the places,
 -- whose other ones are zeros.
 -- Assumes nothing.
 use Prim.Native.Nat.{ℕ, _-_, _^_, _≤_, _<_}

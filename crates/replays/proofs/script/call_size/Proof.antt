@@ -1,4 +1,4 @@
--- `printing::call_size` gives no more than there is behind the place.
+-- `replays::script::call_size` gives no more than there is behind the place.
 -- Assumes nothing.
 use Prim.Native.Nat.{ℕ, _-_, _≤_}
 use mathlib.Core.Path.{_≡_, ap}

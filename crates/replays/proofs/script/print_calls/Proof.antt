@@ -1,4 +1,4 @@
--- `printing::print_calls` ends: each call takes at least one byte of the script.
+-- `replays::script::print_calls` ends: each call takes at least one byte of the script.
 -- Assumes nothing.
 use Prim.Native.Nat.{_-_, _≤_}
 use borrow.Author.Needs.{needs}

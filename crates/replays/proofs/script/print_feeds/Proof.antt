@@ -1,4 +1,4 @@
--- `printing::print_feeds` ends: with each frame that is handed out, fewer bytes are held and left to offer.
+-- `replays::script::print_feeds` ends: with each frame that is handed out, fewer bytes are held and left to offer.
 -- Assumes nothing.
 use Prim.Native.Nat.{_+_, _-_, _≤_}
 use native.Mathlib.Omega.{arith}

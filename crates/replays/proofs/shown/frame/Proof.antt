@@ -1,4 +1,4 @@
--- `replays::frame` meets its contract: the texts one behind the other.
+-- `replays::shown::frame` meets its contract: the texts one behind the other.
 -- Assumes nothing.
 use Rattle.records.proofs.Places.{told-values, told-placed}
 use Rattle.lines.proofs.Typed.{_then_}

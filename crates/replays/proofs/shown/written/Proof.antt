@@ -1,4 +1,4 @@
--- `show::written` meets its contract: what the writer answered says whether its bytes or a dash are shown.
+-- `replays::shown::written` meets its contract: what the writer answered says whether its bytes or a dash are shown.
 -- Assumes nothing.
 use borrow.Author.Needs.{needs}
 use Rattle.replays.proofs.Answered.{longest, bytes-shown, dash-shown}

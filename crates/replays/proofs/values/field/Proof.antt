@@ -1,4 +1,4 @@
--- `replays::field` meets its contract: the form picks the texts.
+-- `replays::values::field` meets its contract: the form picks the texts.
 -- Assumes nothing.
 use borrow.Author.Tests.{eq-eqb, ne-eqb}
 use mir.Syntax.{w64}

@@ -1,4 +1,4 @@
--- `replays::forms_of` meets its contract: a status report has its own forms.
+-- `replays::values::forms_of` meets its contract: a status report has its own forms.
 -- Assumes nothing.
 use mathlib.Core.Path.{_≡_, refl}
 use mathlib.Core.List.{[], _∷_}

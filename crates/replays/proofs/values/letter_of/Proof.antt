@@ -1,4 +1,4 @@
--- `replays::letter_of` meets its contract: it is what is left of the value's size by 256.
+-- `replays::values::letter_of` meets its contract: it is what is left of the value's size by 256.
 -- Assumes nothing.
 use mir.Syntax.{w64}
 use mir.ValLaws.{toZ-ofZ}

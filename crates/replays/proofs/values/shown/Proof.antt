@@ -1,4 +1,4 @@
--- `replays::shown` meets its contract. The loop's invariant: what is left to be typed makes the line that all values make,
+-- `replays::values::shown` meets its contract. The loop's invariant: what is left to be typed makes the line that all values make,
 -- and the line keeps its length. The measure is what is left of the values.
 -- Assumes nothing.
 use Prim.Native.Nat.{_-_, _≤_}

@@ -1,4 +1,4 @@
--- `replays::signed` meets its contract: its two branches are the two cases of its texts.
+-- `replays::values::signed` meets its contract: its two branches are the two cases of its texts.
 -- Assumes nothing.
 use mathlib.Core.Path.{_≡_, refl}
 use mathlib.Core.Bool.{true, false, true≢false}

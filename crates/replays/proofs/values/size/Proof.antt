@@ -1,4 +1,4 @@
--- `replays::size` meets its contract: one more than a number below zero, taken from zero, fits, of the lowest one too, and
+-- `replays::values::size` meets its contract: one more than a number below zero, taken from zero, fits, of the lowest one too, and
 -- is one less than its distance from zero.
 -- Assumes nothing.
 use Prim.Native.Nat.{zero, suc, _+_}

@@ -1,4 +1,4 @@
--- `short_ways::is_plain` meets its contract: it has passed its three tests.
+-- `row_stream::short_ways::is_plain` meets its contract: it has passed its three tests.
 -- Assumes nothing.
 use borrow.Author.Tests.{eqb-true, leb-true}
 use lib.Dec.{eqb, leb}

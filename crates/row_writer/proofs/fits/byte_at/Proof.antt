@@ -1,4 +1,4 @@
--- `given::fits::byte_at` meets its contract: a number up to 255 is a byte.
+-- `row_writer::fits::byte_at` meets its contract: a number up to 255 is a byte.
 -- Assumes nothing.
 use mathlib.Core.Path.{ap, _∙_}
 use native.Mathlib.Omega.{arith}

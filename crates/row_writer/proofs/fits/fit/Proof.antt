@@ -1,4 +1,4 @@
--- `given::fits::fit` meets its contract. The loop's invariant: all values fit exactly when those from i on do. The
+-- `row_writer::fits::fit` meets its contract. The loop's invariant: all values fit exactly when those from i on do. The
 -- measure is what is left of them. Assumes nothing.
 use Prim.Native.Nat.{ℕ, _+_, _-_, _≤_, _<_}
 use mathlib.Core.Path.{_≡_, refl, sym, _∙_}
@@ -12,7 +12,7 @@ use lib.IntN.{ℤ, pos}
 use lib.ListN.{length, drop, drop-of-length-le}
 use lib.Seq.{drop-cons}
 use Rattle.rules.specs.Bytes.{every}
-use Rattle.row_writer.specs.Given.{upTo, valueAt}
+use Rattle.row_writer.specs.Given.{atMost, valueAt}
 use Rattle.row_writer.proofs.Values.{as-read}
 use Rattle.row_writer.proofs.fits.fit.Statement.{statement}
 use Rattle.row_writer.proofs.fits.fit.Tie as tie
@@ -31,7 +31,7 @@ unfolding every
 ended test vs i h = rw (drop-of-length-le vs h)
 
 abbrev Inv-loop : tie.InvT-loop
-Inv-loop values limit i₀ i = (i ≤ length values) × (every (upTo limit) values ≡ every (upTo limit) (drop i values))
+Inv-loop values limit i₀ i = (i ≤ length values) × (every (atMost limit) values ≡ every (atMost limit) (drop i values))
 
 abbrev μ-loop : tie.MeasureT-loop
 μ-loop values limit i₀ i = length values - i
@@ -48,10 +48,10 @@ shared-slice-copy-out-up-to c = omega arith
 up-to-requires : tie.Need-up-to-requires Inv-loop μ-loop
 up-to-requires c κs = search needs
 
-told : (c : tie.After-up-to Inv-loop μ-loop) → c .up-to .result ≡ upTo (c .before .before .before .before .args .limit) (valueAt (c .before .before .before .before .args .values .now) (c .before .before .before .loop .i))
+told : (c : tie.After-up-to Inv-loop μ-loop) → c .up-to .result ≡ atMost (c .before .before .before .before .args .limit) (valueAt (c .before .before .before .before .args .values .now) (c .before .before .before .loop .i))
 told c =
     let start = c .before .before .before .before in
-    as-read (upTo (start .args .limit)) (valueAt (start .args .values .now) (c .before .before .before .loop .i)) (sfits-of (c .before .up-to-arg .given)) (c .up-to .ensures)
+    as-read (atMost (start .args .limit)) (valueAt (start .args .values .now) (c .before .before .before .loop .i)) (sfits-of (c .before .up-to-arg .given)) (c .up-to .ensures)
 
 returns : tie.Need-returns Inv-loop μ-loop
 returns c =

@@ -1,4 +1,4 @@
--- `given::fits::fits_signed` meets its contract: the signed reading that the code compares is the value.
+-- `row_writer::fits::fits_signed` meets its contract: the signed reading that the code compares is the value.
 -- Assumes nothing.
 use mir.Syntax.{w64}
 use mir.ValLaws.{toZ-ofZ}

@@ -1,4 +1,4 @@
--- `given::fits::number_up_to` meets its contract: a value that passes the test is no larger than the limit.
+-- `row_writer::fits::number_up_to` meets its contract: a value that passes the test is no larger than the limit.
 -- Assumes nothing.
 use mathlib.Core.Path.{_≡_, sym, _∙_}
 use mathlib.Core.Bool.{true}
@@ -6,7 +6,7 @@ use native.Mathlib.Omega.{arith}
 use borrow.Author.Needs.{needs}
 use mir.Syntax.{w64}
 use mir.ValLaws.{toZ-ofZ}
-use Rattle.row_writer.specs.Given.{upTo}
+use Rattle.row_writer.specs.Given.{atMost}
 use Rattle.row_writer.proofs.Values.{as-read, not-negative, at-most}
 use Rattle.row_writer.proofs.fits.number_up_to.Statement.{statement}
 use Rattle.row_writer.proofs.fits.number_up_to.Tie as tie
@@ -14,10 +14,10 @@ use Rattle.row_writer.proofs.fits.number_up_to.Tie as tie
 up-to-requires : tie.Need-up-to-requires
 up-to-requires c κs = search needs
 
-told : (c : tie.After-up-to) → c .up-to .result ≡ upTo (c .before .args .limit) (c .before .args .v)
-told c = as-read (upTo (c .before .args .limit)) (c .before .args .v) (c .before .fits .v) (c .up-to .ensures)
+told : (c : tie.After-up-to) → c .up-to .result ≡ atMost (c .before .args .limit) (c .before .args .v)
+told c = as-read (atMost (c .before .args .limit)) (c .before .args .v) (c .before .fits .v) (c .up-to .ensures)
 
-passed : (c : tie.Then1) → upTo (c .before .before .args .limit) (c .before .before .args .v) ≡ true
+passed : (c : tie.Then1) → atMost (c .before .before .args .limit) (c .before .before .args .v) ≡ true
 passed c = sym (told (c .before)) ∙ c .if1 .taken
 
 cast-result : tie.Need-cast-result

@@ -1,4 +1,4 @@
--- `given::fits::temperature_at` meets its contract: a value that passes the test keeps its number in 32 bits.
+-- `row_writer::fits::temperature_at` meets its contract: a value that passes the test keeps its number in 32 bits.
 -- Assumes nothing.
 use mathlib.Core.Path.{_≡_, sym, _∙_}
 use mathlib.Core.Bool.{true}

@@ -1,4 +1,4 @@
--- `given::fits::up_to` meets its contract: the signed readings that the code compares are the value and the limit.
+-- `row_writer::fits::up_to` meets its contract: the signed readings that the code compares are the value and the limit.
 -- Assumes nothing.
 use native.Mathlib.Omega.{arith}
 use borrow.Author.Needs.{needs}

@@ -1,4 +1,4 @@
--- `given::fits::value_at` meets its contract: past the end of the row there is no value.
+-- `row_writer::fits::value_at` meets its contract: past the end of the row there is no value.
 -- Assumes nothing.
 use mathlib.Core.Path.{sym}
 use borrow.Author.Needs.{needs}

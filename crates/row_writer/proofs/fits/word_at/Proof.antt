@@ -1,4 +1,4 @@
--- `given::fits::word_at` meets its contract: its calls are those of the definition.
+-- `row_writer::fits::word_at` meets its contract: its calls are those of the definition.
 -- Assumes nothing.
 use mathlib.Core.Path.{ap, _∙_}
 use borrow.Author.Needs.{needs}

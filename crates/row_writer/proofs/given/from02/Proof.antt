@@ -1,4 +1,4 @@
--- `given::records::from02` meets its contract: each field is read from its own place.
+-- `row_writer::given::from02` meets its contract: each field is read from its own place.
 -- Assumes nothing.
 use borrow.Author.Needs.{needs}
 use Rattle.row_writer.specs.Given.{from02}

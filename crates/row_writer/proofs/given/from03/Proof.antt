@@ -1,4 +1,4 @@
--- `given::records::from03` meets its contract: each field is read from its own place, and the temperature fits its 32 bits.
+-- `row_writer::given::from03` meets its contract: each field is read from its own place, and the temperature fits its 32 bits.
 -- Assumes nothing.
 use borrow.Author.Needs.{needs}
 use mir.Syntax.{w32}

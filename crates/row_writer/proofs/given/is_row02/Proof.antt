@@ -1,4 +1,4 @@
--- `given::records::is_row02` meets its contract: the length first, then the values of the record.
+-- `row_writer::given::is_row02` meets its contract: the length first, then the values of the record.
 -- Assumes nothing.
 use mathlib.Core.Path.{sym}
 use native.Mathlib.Omega.{arith}

@@ -1,4 +1,4 @@
--- `given::records::is_row03` meets its contract: the length first, then the values of the record, the last with a sign.
+-- `row_writer::given::is_row03` meets its contract: the length first, then the values of the record, the last with a sign.
 -- Assumes nothing.
 use mathlib.Core.Path.{sym, ap, ap₂, _∙_}
 use mathlib.Core.Bool.{_&&_}

@@ -1,4 +1,4 @@
--- `given::records::is_status_row` meets its contract: the length first, then the values of the record in three parts.
+-- `row_writer::given::is_status_row` meets its contract: the length first, then the values of the record in three parts.
 -- Assumes nothing.
 use mathlib.Core.Path.{sym, ap₂}
 use mathlib.Core.Bool.{_&&_}

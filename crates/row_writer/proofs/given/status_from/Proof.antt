@@ -1,4 +1,4 @@
--- `given::records::status_from` meets its contract: each field is read from its own place.
+-- `row_writer::given::status_from` meets its contract: each field is read from its own place.
 -- Assumes nothing.
 use borrow.Author.Needs.{needs}
 use Rattle.row_writer.specs.Given.{statusFrom}

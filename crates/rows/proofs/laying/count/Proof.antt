@@ -1,4 +1,4 @@
--- `rows::count` meets its contract: a number below 2^63 is itself as an `i64`.
+-- `rows::laying::count` meets its contract: a number below 2^63 is itself as an `i64`.
 -- Assumes nothing.
 use mir.Syntax.{w64}
 use mir.ValLaws.{toZ-pos}

@@ -1,4 +1,4 @@
--- `rows::lay_answer` meets its contract: each arm lays the row of its answer.
+-- `rows::laying::lay_answer` meets its contract: each arm lays the row of its answer.
 -- Assumes nothing.
 use Rattle.rows.proofs.Outcomes.{lays, lays-none}
 use borrow.Author.Needs.{needs}
@@ -14,14 +14,14 @@ lay-frame-requires c κs = search needs
 enum-known-answer-2 : tie.Need-enum-known-answer-2
 enum-known-answer-2 c = search needs
 
-lay-head-requires : tie.Need-lay-head-requires
-lay-head-requires c κs = search needs
+lay-heading-requires : tie.Need-lay-heading-requires
+lay-heading-requires c κs = search needs
 
 enum-known-answer-3 : tie.Need-enum-known-answer-3
 enum-known-answer-3 c = search needs
 
-lay-head-requires-2 : tie.Need-lay-head-requires-2
-lay-head-requires-2 c κs = search needs
+lay-heading-requires-2 : tie.Need-lay-heading-requires-2
+lay-heading-requires-2 c κs = search needs
 
 enum-known-answer-4 : tie.Need-enum-known-answer-4
 enum-known-answer-4 c = search needs
@@ -39,13 +39,13 @@ same-length-2 : tie.Need-same-length-2
 same-length-2 c = search needs
 
 returns-2 : tie.Need-returns-2
-returns-2 c = rw (c .before .before .before .before .answer2 .given .1) (lays (c .before .lay-head .ensures))
+returns-2 c = rw (c .before .before .before .before .answer2 .given .1) (lays (c .before .lay-heading .ensures))
 
 same-length-3 : tie.Need-same-length-3
 same-length-3 c = search needs
 
 returns-3 : tie.Need-returns-3
-returns-3 c = rw (c .before .before .before .before .answer3 .given .1) (lays (c .before .lay-head2 .ensures))
+returns-3 c = rw (c .before .before .before .before .answer3 .given .1) (lays (c .before .lay-heading2 .ensures))
 
 returns-4 : tie.Need-returns-4
 returns-4 c = rw (c .before .answer4 .given .1) (lays-none _)
@@ -57,9 +57,9 @@ lay-answer-spec =
     enum-known-answer
     lay-frame-requires
     enum-known-answer-2
-    lay-head-requires
+    lay-heading-requires
     enum-known-answer-3
-    lay-head-requires-2
+    lay-heading-requires-2
     enum-known-answer-4
     cast-result
     same-length

@@ -1,11 +1,11 @@
--- `rows::lay_frame` meets its contract: its test is refusal 4, and the values are laid behind the first six numbers.
+-- `rows::laying::lay_frame` meets its contract: its test is refusal 4, and the values are laid behind the first six numbers.
 -- Assumes nothing.
 use mathlib.Core.Path.{_∙_}
 use native.Mathlib.Omega.{arith}
 use denote.Ref.{now}
 use Rattle.rules.specs.Answers.{kindOf, values}
 use Rattle.records.proofs.Places.{told-values, told-few, told-placed}
-use Rattle.rows.specs.Rows.{kindRow, codeOf, head}
+use Rattle.rows.specs.Rows.{kindRow, codeOf, heading}
 use Rattle.rows.proofs.Laid.{laid-behind}
 use Rattle.rows.proofs.Outcomes.{too-long, at-the-front}
 use borrow.Author.Needs.{needs}
@@ -31,8 +31,8 @@ kind-row-requires c κs = search needs
 code-of-requires : tie.Need-code-of-requires
 code-of-requires c κs = search needs
 
-put-head-requires : tie.Need-put-head-requires
-put-head-requires c κs = search needs
+put-heading-requires : tie.Need-put-heading-requires
+put-heading-requires c κs = search needs
 
 array-share-prefix-values : tie.Need-array-share-prefix-values
 array-share-prefix-values c = told-placed (c .before .before .before .before .before .before .before .before .fields-of .ensures)
@@ -57,11 +57,11 @@ returns-2 c =
     let a = c .before .before .before .before .before .before .before .before .before .before .before .before .args in
     let told = c .before .before .before .before .before .before .before .before .before .before .before .fields-of .ensures in
     let count = told .count in
-    let first = head (kindRow (kindOf (a .frame))) (codeOf (kindOf (a .frame))) (a .taken) (a .start) (a .skipped) (a .size) in
+    let first = heading (kindRow (kindOf (a .frame))) (codeOf (kindOf (a .frame))) (a .taken) (a .start) (a .skipped) (a .size) in
     let laid = laid-behind first (values (a .frame)) (now (a .numbers)) in
     at-the-front (omega arith)
     (c .before .put-values .ensures
-    ∙ rw (told-values told, h .put-head .ensures, h .before .code-of .ensures, h .before .before .kind-row .ensures, told .kind) laid)
+    ∙ rw (told-values told, h .put-heading .ensures, h .before .code-of .ensures, h .before .before .kind-row .ensures, told .kind) laid)
 
 pub lay-frame-spec : {M : Type 1} → statement M
 lay-frame-spec =
@@ -72,7 +72,7 @@ lay-frame-spec =
     returns
     kind-row-requires
     code-of-requires
-    put-head-requires
+    put-heading-requires
     array-share-prefix-values
     slice-aggregate-put-values
     put-values-requires

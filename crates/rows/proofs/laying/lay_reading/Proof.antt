@@ -1,4 +1,4 @@
--- `rows::lay_reading` meets its contract: each arm lays the row of its reading.
+-- `rows::laying::lay_reading` meets its contract: each arm lays the row of its reading.
 -- Assumes nothing.
 use Rattle.rows.proofs.Outcomes.{lays, lays-none}
 use borrow.Author.Needs.{needs}

@@ -1,4 +1,4 @@
--- `rows::put_numbers` meets its contract. The loop's invariant: the first i numbers are laid from `at` on, and as many are
+-- `rows::laying::put_numbers` meets its contract. The loop's invariant: the first i numbers are laid from `at` on, and as many are
 -- lent as before. A turn's store is `lib.Seq`'s `paste-suc`.
 -- Assumes nothing.
 use Prim.Native.Nat.{ℕ, _-_, _^_, _≤_, _<_}

@@ -1,4 +1,4 @@
--- `frame_rows::command_row` meets its contract: a command, or nothing.
+-- `rows::reading::command_row` meets its contract: a command, or nothing.
 -- Assumes nothing.
 use mathlib.Core.Path.{sym, _∙_}
 use native.Mathlib.Omega.{arith}
@@ -13,16 +13,16 @@ use Rattle.rows.proofs.reading.command_row.Tie as tie
 is-command-requires : tie.Need-is-command-requires
 is-command-requires c κs = search needs
 
-shared-slice-read-lay-head : tie.Need-shared-slice-read-lay-head
-shared-slice-read-lay-head c =
+shared-slice-read-lay-heading : tie.Need-shared-slice-read-lay-heading
+shared-slice-read-lay-heading c =
     let s = c .before .before .before .before .args .bytes .now in
     omega (arith, six-bytes (isCommand s) s (not-command s) (sym (c .before .before .is-command .ensures) ∙ c .before .if1 .taken))
 
-cast-lay-head : tie.Need-cast-lay-head
-cast-lay-head c = omega (arith, c .shared-slice-known2 .given 4)
+cast-lay-heading : tie.Need-cast-lay-heading
+cast-lay-heading c = omega (arith, c .shared-slice-known2 .given 4)
 
-lay-head-requires : tie.Need-lay-head-requires
-lay-head-requires c κs = search needs
+lay-heading-requires : tie.Need-lay-heading-requires
+lay-heading-requires c κs = search needs
 
 same-length : tie.Need-same-length
 same-length c = search needs
@@ -30,7 +30,7 @@ same-length c = search needs
 returns : tie.Need-returns
 returns c =
     let command = c .before .before .before .before in
-    rw (a-command _ (sym (command .before .is-command .ensures) ∙ command .if1 .taken)) (lays (c .before .lay-head .ensures))
+    rw (a-command _ (sym (command .before .is-command .ensures) ∙ command .if1 .taken)) (lays (c .before .lay-heading .ensures))
 
 returns-2 : tie.Need-returns-2
 returns-2 c = rw (no-command _ (sym (c .before .is-command .ensures) ∙ c .if1 .left)) (lays-none 8)
@@ -40,9 +40,9 @@ command-row-spec =
     tie.close
     (tie.spec
     is-command-requires
-    shared-slice-read-lay-head
-    cast-lay-head
-    lay-head-requires
+    shared-slice-read-lay-heading
+    cast-lay-heading
+    lay-heading-requires
     same-length
     returns
     returns-2)

@@ -1,4 +1,4 @@
--- `frame_rows::read_row` meets its contract: each family has its own.
+-- `rows::reading::read_row` meets its contract: each family has its own.
 -- Assumes nothing.
 use mathlib.Core.Path.{sym}
 use Rattle.frames.proofs.Families.{no-family}

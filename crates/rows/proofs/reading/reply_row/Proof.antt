@@ -1,4 +1,4 @@
--- `frame_rows::reply_row` meets its contract: an acknowledgement, or else a report or nothing.
+-- `rows::reading::reply_row` meets its contract: an acknowledgement, or else a report or nothing.
 -- Assumes nothing.
 use mathlib.Core.Path.{sym, _∙_}
 use native.Mathlib.Omega.{arith}
@@ -14,16 +14,16 @@ use Rattle.rows.proofs.reading.reply_row.Tie as tie
 is-ack-requires : tie.Need-is-ack-requires
 is-ack-requires c κs = search needs
 
-shared-slice-read-lay-head : tie.Need-shared-slice-read-lay-head
-shared-slice-read-lay-head c =
+shared-slice-read-lay-heading : tie.Need-shared-slice-read-lay-heading
+shared-slice-read-lay-heading c =
     let s = c .before .before .before .before .args .bytes .now in
     omega (arith, six-bytes (isAck s) s (not-ack s) (sym (c .before .before .is-ack .ensures) ∙ c .before .if1 .taken))
 
-cast-lay-head : tie.Need-cast-lay-head
-cast-lay-head c = omega (arith, c .shared-slice-known2 .given 4)
+cast-lay-heading : tie.Need-cast-lay-heading
+cast-lay-heading c = omega (arith, c .shared-slice-known2 .given 4)
 
-lay-head-requires : tie.Need-lay-head-requires
-lay-head-requires c κs = search needs
+lay-heading-requires : tie.Need-lay-heading-requires
+lay-heading-requires c κs = search needs
 
 same-length : tie.Need-same-length
 same-length c = search needs
@@ -31,7 +31,7 @@ same-length c = search needs
 returns : tie.Need-returns
 returns c =
     let ack = c .before .before .before .before in
-    rw (an-ack _ (sym (ack .before .is-ack .ensures) ∙ ack .if1 .taken)) (lays (c .before .lay-head .ensures))
+    rw (an-ack _ (sym (ack .before .is-ack .ensures) ∙ ack .if1 .taken)) (lays (c .before .lay-heading .ensures))
 
 read-numbers-requires : tie.Need-read-numbers-requires
 read-numbers-requires c κs = search needs
@@ -63,9 +63,9 @@ reply-row-spec =
     tie.close
     (tie.spec
     is-ack-requires
-    shared-slice-read-lay-head
-    cast-lay-head
-    lay-head-requires
+    shared-slice-read-lay-heading
+    cast-lay-heading
+    lay-heading-requires
     same-length
     returns
     read-numbers-requires

@@ -1,4 +1,4 @@
--- `spe_rules::is_ack_code` meets its contract: its two tests are the rule's.
+-- `spe::codes::is_ack_code` meets its contract: its two tests are the rule's.
 -- Assumes nothing.
 use borrow.Author.Needs.{needs}
 use Rattle.rules.specs.Codes.{isAckCode}

@@ -1,4 +1,4 @@
--- `spe_rules::is_code` meets its contract: one test, computed over all bytes, holds each bit to the rule.
+-- `spe::codes::is_code` meets its contract: one test, computed over all bytes, holds each bit to the rule.
 -- Assumes nothing.
 use Prim.Native.Nat.{ℕ, _+_, _*_, _/_, _%_, _^_, _<_}
 use mathlib.Core.Path.{_≡_, refl, sym}

@@ -1,4 +1,4 @@
--- `ends::ends_report` meets its contract: its tests are those of the definition.
+-- `spe::ends::ends_report` meets its contract: its tests are those of the definition.
 -- Assumes nothing.
 use borrow.Author.Needs.{needs}
 use borrow.Author.Tests.{le-leb, lt-leb}

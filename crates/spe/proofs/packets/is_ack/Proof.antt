@@ -1,4 +1,4 @@
--- `spe_tests::is_ack` meets its contract: it is six bytes, and the two tests are those of the definition.
+-- `spe::packets::is_ack` meets its contract: it is six bytes, and the two tests are those of the definition.
 -- Assumes nothing.
 use mathlib.Core.Path.{sym}
 use mathlib.Core.Bool.{_&&_}

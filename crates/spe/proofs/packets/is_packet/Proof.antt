@@ -1,4 +1,4 @@
--- `spe_tests::is_packet` meets its contract: six bytes are compared with the packet one by one, and the code with itself.
+-- `spe::packets::is_packet` meets its contract: six bytes are compared with the packet one by one, and the code with itself.
 -- Assumes nothing.
 use Prim.Native.Nat.{ℕ}
 use mathlib.Core.Path.{_≡_, refl, sym, ap, _∙_}

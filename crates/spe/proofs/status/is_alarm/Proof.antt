@@ -1,4 +1,4 @@
--- `status_tests::is_alarm` meets its contract: the byte is compared with each letter of an alarm.
+-- `spe::status::is_alarm` meets its contract: the byte is compared with each letter of an alarm.
 -- Assumes nothing.
 use mathlib.Core.Bool.{or-assoc, or-false}
 use Rattle.rules.specs.Bytes.{oneOf}

@@ -1,4 +1,4 @@
--- `status_tests::is_data` meets its contract: on 67 bytes its tests are the rules of the fields.
+-- `spe::status::is_data` meets its contract: on 67 bytes its tests are the rules of the fields.
 -- Assumes nothing.
 use Prim.Native.Nat.{ℕ}
 use mathlib.Core.Path.{_≡_, refl, sym, ap, _∙_}

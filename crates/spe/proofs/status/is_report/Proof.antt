@@ -1,4 +1,4 @@
--- `status::is_report` meets its contract: its tests are those of the bytes in front and behind. The sum of 67 bytes does
+-- `spe::status::is_report` meets its contract: its tests are those of the bytes in front and behind. The sum of 67 bytes does
 -- not wrap.
 -- Assumes nothing.
 use Prim.Native.Nat.{ℕ, _/_, _%_, _^_}

@@ -1,4 +1,4 @@
--- `status_tests::is_status` meets its contract: a good frame around good data.
+-- `spe::status::is_status` meets its contract: a good frame around good data.
 -- Assumes nothing.
 use Prim.Native.Nat.{ℕ}
 use mathlib.Core.Path.{_≡_, sym, ap, _∙_}

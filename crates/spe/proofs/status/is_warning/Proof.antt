@@ -1,4 +1,4 @@
--- `status_tests::is_warning` meets its contract: the byte is compared with each letter of a warning.
+-- `spe::status::is_warning` meets its contract: the byte is compared with each letter of a warning.
 -- Assumes nothing.
 use mathlib.Core.Bool.{or-assoc, or-false}
 use Rattle.rules.specs.Bytes.{oneOf}

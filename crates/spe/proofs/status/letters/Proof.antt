@@ -1,4 +1,4 @@
--- `status_tests::letters` meets its contract: each byte is compared with its field's letters.
+-- `spe::status::letters` meets its contract: each byte is compared with its field's letters.
 -- Assumes nothing.
 use Prim.Native.Nat.{ℕ}
 use mathlib.Core.Path.{_≡_, ap, _∙_}

@@ -1,4 +1,4 @@
--- `status_tests::limits` meets its contract: the ID's first digit picks the limits, and the tests are theirs.
+-- `spe::status::limits` meets its contract: the ID's first digit picks the limits, and the tests are theirs.
 -- Assumes nothing.
 use Prim.Native.Nat.{ℕ}
 use mathlib.Core.Path.{_≡_, sym, ap, _∙_}

@@ -1,4 +1,4 @@
--- `status_tests::spaces` meets its contract. The loop's invariant: all bytes follow exactly when those before i did and those from
+-- `spe::status::spaces` meets its contract. The loop's invariant: all bytes follow exactly when those before i did and those from
 -- i on do. The measure is what is left of the 66 pairs.
 -- Assumes nothing.
 use Prim.Native.Nat.{ℕ, _+_, _-_, _≤_, _<_}

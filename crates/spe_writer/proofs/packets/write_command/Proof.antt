@@ -1,4 +1,4 @@
--- `packet_writer::write_command` meets its contract: the test is the rule's, and the packet is written where it passes.
+-- `spe_writer::packets::write_command` meets its contract: the test is the rule's, and the packet is written where it passes.
 -- Assumes nothing.
 use mathlib.Core.Path.{sym, _∙_}
 use borrow.Author.Tests.{not-true, not-false}

@@ -1,4 +1,4 @@
--- `packet_writer::write_packet` meets its contract: its six bytes are laid at the front where there is room for them.
+-- `spe_writer::packets::write_packet` meets its contract: its six bytes are laid at the front where there is room for them.
 -- Assumes nothing.
 use mathlib.Core.Path.{refl}
 use native.Mathlib.Omega.{arith}

@@ -1,4 +1,4 @@
--- `spe_writer::lay_antennas` meets its contract: its rows are fields 6 to 9.
+-- `spe_writer::status::lay_antennas` meets its contract: its rows are fields 6 to 9.
 -- Assumes nothing.
 use mathlib.Core.Path.{refl, _∙_}
 use mathlib.Core.List.{append-assoc}

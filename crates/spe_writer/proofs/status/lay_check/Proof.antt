@@ -1,4 +1,4 @@
--- `spe_writer::lay_check` meets its contract: 67 bytes have a sum below 2^16, so that nothing of it is lost.
+-- `spe_writer::status::lay_check` meets its contract: 67 bytes have a sum below 2^16, so that nothing of it is lost.
 -- Assumes nothing.
 use Prim.Native.Nat.{_*_, _^_, _≤_, _<_}
 use mathlib.Core.Path.{_≡_, _∙_}

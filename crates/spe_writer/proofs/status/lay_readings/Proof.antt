@@ -1,4 +1,4 @@
--- `spe_writer::lay_readings` meets its contract: its rows are fields 10 to 14.
+-- `spe_writer::status::lay_readings` meets its contract: its rows are fields 10 to 14.
 -- Assumes nothing.
 use mathlib.Core.Path.{_∙_}
 use mathlib.Core.List.{append-assoc, append-nil}

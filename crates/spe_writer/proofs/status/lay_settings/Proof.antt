@@ -1,4 +1,4 @@
--- `spe_writer::lay_settings` meets its contract: its rows are fields 1 to 5.
+-- `spe_writer::status::lay_settings` meets its contract: its rows are fields 1 to 5.
 -- Assumes nothing.
 use mathlib.Core.Path.{refl, _∙_}
 use mathlib.Core.List.{append-assoc, append-nil}

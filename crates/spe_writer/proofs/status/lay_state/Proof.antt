@@ -1,4 +1,4 @@
--- `spe_writer::lay_state` meets its contract: its rows are fields 15 to 19, and the comma behind them.
+-- `spe_writer::status::lay_state` meets its contract: its rows are fields 15 to 19, and the comma behind them.
 -- Assumes nothing.
 use mathlib.Core.Path.{refl, _∙_}
 use mathlib.Core.List.{append-assoc}

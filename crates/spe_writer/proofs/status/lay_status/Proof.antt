@@ -1,4 +1,4 @@
--- `spe_writer::lay_status` meets its contract: the head, the four parts of the data and what stands behind them are rows.
+-- `spe_writer::status::lay_status` meets its contract: the head, the four parts of the data and what stands behind them are rows.
 -- The sum is that of the data, which is found where it was laid.
 -- Assumes nothing.
 use mathlib.Core.Path.{refl}

@@ -1,4 +1,4 @@
--- `spe_writer::put_point` meets its contract: the bytes before the point, the point and those behind it are three rows.
+-- `spe_writer::status::put_point` meets its contract: the bytes before the point, the point and those behind it are three rows.
 -- Assumes nothing.
 use Prim.Native.Nat.{suc}
 use mathlib.Core.Path.{refl, ap, _∙_}

@@ -1,4 +1,4 @@
--- `spe_writer::write_status` meets its contract: the test is the rule's, and the report is laid where it passes and fits.
+-- `spe_writer::status::write_status` meets its contract: the test is the rule's, and the report is laid where it passes and fits.
 -- Assumes nothing.
 use mathlib.Core.Path.{sym, _∙_}
 use native.Mathlib.Omega.{arith}

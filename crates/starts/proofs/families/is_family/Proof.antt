@@ -1,4 +1,4 @@
--- `families::is_family` meets its contract: the families are those of SPE packets, and that of sentences.
+-- `starts::families::is_family` meets its contract: the families are those of SPE packets, and that of sentences.
 -- Assumes nothing.
 use Prim.Native.Nat.{ℕ}
 use mathlib.Core.Path.{_≡_, refl, ap, _∙_}

@@ -1,4 +1,4 @@
--- `heads::examine` meets its contract: the test of the family picks the rules.
+-- `starts::heads::examine` meets its contract: the test of the family picks the rules.
 -- Assumes nothing.
 use mathlib.Core.Path.{sym, _∙_}
 use borrow.Author.Needs.{needs}

@@ -1,4 +1,4 @@
--- `heads::examine_packet` meets its contract: its tests go along the rules for an SPE start, byte by byte.
+-- `starts::heads::examine_packet` meets its contract: its tests go along the rules for an SPE start, byte by byte.
 -- Assumes nothing.
 use Prim.Native.Nat.{ℕ, _+_, _≤_, _<_}
 use mathlib.Core.Path.{_≡_, sym, _∙_}

@@ -1,4 +1,4 @@
--- `heads::examine_sentence` meets its contract: its tests go along the rules for a start of a sentence. A count that stops
+-- `starts::heads::examine_sentence` meets its contract: its tests go along the rules for a start of a sentence. A count that stops
 -- at 129 tells as much of the payload bytes as the rules ask.
 -- Assumes nothing.
 use Prim.Native.Nat.{ℕ, _+_, min}

@@ -1,4 +1,4 @@
--- `starts::all_payload` meets its contract. The loop's invariant: what is found so far, with the bytes that are left, is
+-- `starts::marks::all_payload` meets its contract. The loop's invariant: what is found so far, with the bytes that are left, is
 -- what is found in all of them. The measure is what is left of 16.
 -- Assumes nothing.
 use Prim.Native.Nat.{ℕ, _+_, _-_, _≤_, _<_}

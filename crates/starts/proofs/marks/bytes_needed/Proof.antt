@@ -1,4 +1,4 @@
--- `starts::bytes_needed` meets its contract: its two tests are those of the rule.
+-- `starts::marks::bytes_needed` meets its contract: its two tests are those of the rule.
 -- Assumes nothing.
 use mathlib.Core.Bool.{Bool, cond}
 use mathlib.Core.Path.{ap, sym}

@@ -1,4 +1,4 @@
--- `starts::is_payload` meets its contract. The loop's invariant: the bytes before `at` are payload bytes. The measure is what is left of the
+-- `starts::marks::is_payload` meets its contract. The loop's invariant: the bytes before `at` are payload bytes. The measure is what is left of the
 -- bytes.
 -- Assumes nothing.
 use Prim.Native.Nat.{ℕ, _+_, _-_, _≤_}

@@ -1,4 +1,4 @@
--- `starts::longest_frame` meets its contract: the tests of the family pick the length.
+-- `starts::marks::longest_frame` meets its contract: the tests of the family pick the length.
 -- Assumes nothing.
 use borrow.Author.Tests.{eq-eqb, ne-eqb}
 use Rattle.starts.proofs.marks.longest_frame.Statement.{statement}

@@ -1,4 +1,4 @@
--- `starts::mark_of` meets its contract: the test of the family picks the mark.
+-- `starts::marks::mark_of` meets its contract: the test of the family picks the mark.
 -- Assumes nothing.
 use borrow.Author.Tests.{eq-eqb, ne-eqb}
 use Rattle.starts.proofs.marks.mark_of.Statement.{statement}

@@ -1,4 +1,4 @@
--- `starts::payload_bytes` meets its contract: the run of the first 129 bytes is the run, counted to 129.
+-- `starts::marks::payload_bytes` meets its contract: the run of the first 129 bytes is the run, counted to 129.
 -- Assumes nothing.
 use Prim.Native.Nat.{ℕ}
 use mathlib.Core.Path.{ap, _∙_}

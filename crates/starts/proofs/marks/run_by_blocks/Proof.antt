@@ -1,4 +1,4 @@
--- `starts::run_by_blocks` meets its contract. The loop's invariant: n payload bytes have been passed, so the run is n bytes
+-- `starts::marks::run_by_blocks` meets its contract. The loop's invariant: n payload bytes have been passed, so the run is n bytes
 -- and the run of what is left. The measure is what is left of the bytes.
 -- Assumes nothing.
 use Prim.Native.Nat.{ℕ, _+_, _-_, _≤_}

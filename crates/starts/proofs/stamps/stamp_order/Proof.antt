@@ -1,4 +1,4 @@
--- `stamps::stamp_order` meets its contract: the wrapped difference is b minus a modulo 2^32, and the tests are the rule's.
+-- `starts::stamps::stamp_order` meets its contract: the wrapped difference is b minus a modulo 2^32, and the tests are the rule's.
 -- Assumes nothing.
 use Prim.Native.Nat.{ℕ, _-_, _^_, _≤_, _<_}
 use mathlib.Core.Path.{_≡_}

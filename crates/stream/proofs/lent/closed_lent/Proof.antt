@@ -1,4 +1,4 @@
--- `lent::closed_lent` meets its contract: a walk of its MIR, by hand. The reader is copied into a local, the local is lent to `close_lent` for a lifetime that is made for the call, and taken back at the reader that `close_lent` left there (`Lending.antt`). That reader and the outcome make the result.
+-- `stream::lent::closed_lent` meets its contract: a walk of its MIR, by hand. The reader is copied into a local, the local is lent to `close_lent` for a lifetime that is made for the call, and taken back at the reader that `close_lent` left there (`Lending.antt`). That reader and the outcome make the result.
 -- All that the proof knows of `close_lent` is that it meets its contract. The parameter and the result own only facts, so what they own at exit is made anew.
 -- Assumes nothing.
 use mathlib.Core.Path.{refl}

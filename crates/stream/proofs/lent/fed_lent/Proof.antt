@@ -1,4 +1,4 @@
--- `lent::fed_lent` meets its contract: a walk of its MIR, by hand. The reader is copied into a local, the local is lent to `feed_lent` for a lifetime that is made for the call, and taken back at the reader that `feed_lent` left there (`Lending.antt`). That reader and the answer make the result.
+-- `stream::lent::fed_lent` meets its contract: a walk of its MIR, by hand. The reader is copied into a local, the local is lent to `feed_lent` for a lifetime that is made for the call, and taken back at the reader that `feed_lent` left there (`Lending.antt`). That reader and the answer make the result.
 -- All that the proof knows of `feed_lent` is that it meets its contract. What the slice of offered bytes owns can be had twice: one copy goes to `feed_lent`, at the slice's own lifetime, and one is kept for the exit. The reader and the result own only facts, so what they own at exit is made anew.
 -- Assumes nothing.
 use mathlib.Core.Path.{refl}

@@ -1,4 +1,4 @@
--- `stream::close` meets its contract: its two tests are the refusals, in their order.
+-- `stream::readers::close` meets its contract: its two tests are the refusals, in their order.
 -- Assumes nothing.
 use Prim.Native.Nat.{_≤_}
 use mathlib.Core.Path.{_≡_, sym, _∙_}

@@ -1,4 +1,4 @@
--- `stream::feed` meets its contract: it is that of the call on the reader's parts.
+-- `stream::readers::feed` meets its contract: it is that of the call on the reader's parts.
 -- Assumes nothing.
 use mathlib.Core.Path.{_≡_}
 use borrow.Author.Needs.{needs}

@@ -1,4 +1,4 @@
--- `stream::fresh_reader` meets its contract: its test is the refusal.
+-- `stream::readers::fresh_reader` meets its contract: its test is the refusal.
 -- Assumes nothing.
 use mathlib.Core.Path.{sym, ap, _∙_}
 use borrow.Author.Needs.{needs}

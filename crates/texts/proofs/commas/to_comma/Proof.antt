@@ -1,4 +1,4 @@
--- `commas::to_comma` meets its contract. The loop's invariant: counted from the place reached, the first comma is where
+-- `texts::commas::to_comma` meets its contract. The loop's invariant: counted from the place reached, the first comma is where
 -- it is counted from the start. Assumes nothing.
 use Prim.Native.Nat.{ℕ, suc, _+_, _-_, _≤_, _<_}
 use mathlib.Core.Path.{_≡_, refl}
@@ -9,25 +9,25 @@ use lib.ListN.{length, drop, getD, drop-of-length-le}
 use lib.Seq.{drop-cons}
 use denote.Ref.{now}
 use borrow.Author.Tests.{eq-eqb, ne-eqb}
-use Rattle.texts.specs.Commas.{upTo}
+use Rattle.texts.specs.Commas.{toComma}
 use Rattle.texts.proofs.commas.to_comma.Statement.{statement}
 use Rattle.texts.proofs.commas.to_comma.Tie as tie
 
 module _ (s : List ℕ) (e : ℕ) where
-  here : e < length s → getD s e 0 ≡ 44 → upTo (drop e s) ≡ 0
-  unfolding upTo
+  here : e < length s → getD s e 0 ≡ 44 → toComma (drop e s) ≡ 0
+  unfolding toComma
   here h q = rw (drop-cons s e 0, eq-eqb _ _ q)
 
-  further : e < length s → (getD s e 0 ≡ 44 → ⊥) → upTo (drop e s) ≡ suc (upTo (drop (e + 1) s))
-  unfolding upTo
+  further : e < length s → (getD s e 0 ≡ 44 → ⊥) → toComma (drop e s) ≡ suc (toComma (drop (e + 1) s))
+  unfolding toComma
   further h q = rw (add-one, drop-cons s e 0, ne-eqb _ _ q)
 
-  none : length s ≤ e → upTo (drop e s) ≡ 0
-  unfolding upTo
+  none : length s ≤ e → toComma (drop e s) ≡ 0
+  unfolding toComma
   none h = rw (drop-of-length-le s h)
 
 abbrev Inv-loop : tie.InvT-loop
-Inv-loop s a e₀ e = a + upTo (drop a s) ≡ e + upTo (drop e s)
+Inv-loop s a e₀ e = a + toComma (drop a s) ≡ e + toComma (drop e s)
 
 abbrev μ-loop : tie.MeasureT-loop
 μ-loop s a e₀ e = length s - e

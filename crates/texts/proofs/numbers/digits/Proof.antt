@@ -1,4 +1,4 @@
--- `numbers::digits` meets its contract. The loop's invariant: the text is all digits exactly when it is from i on, its
+-- `texts::numbers::digits` meets its contract. The loop's invariant: the text is all digits exactly when it is from i on, its
 -- number is `count` read on from i, and `count` is below 10 ^ i. The measure is what is left of the text.
 -- Assumes nothing.
 use Prim.Native.Nat.{ℕ, _+_, _-_, _*_, _^_, _≤_, _<_}

@@ -1,4 +1,4 @@
--- `leaves::one_of` meets its contract. The loop's invariant: b is one of the letters exactly when it is one of those from
+-- `texts::parts::one_of` meets its contract. The loop's invariant: b is one of the letters exactly when it is one of those from
 -- i on. The measure is what is left of the letters.
 -- Assumes nothing.
 use Prim.Native.Nat.{ℕ, _+_, _-_, _≤_, _<_}

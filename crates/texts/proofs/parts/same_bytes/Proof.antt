@@ -1,4 +1,4 @@
--- `leaves::same_bytes` meets its contract. The loop's invariant: the texts are the same exactly when they are from i on.
+-- `texts::parts::same_bytes` meets its contract. The loop's invariant: the texts are the same exactly when they are from i on.
 -- The measure is what is left of them.
 -- Assumes nothing.
 use Prim.Native.Nat.{ℕ, _+_, _-_, _≤_, _<_}

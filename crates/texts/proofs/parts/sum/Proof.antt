@@ -1,4 +1,4 @@
--- `leaves::sum` meets its contract. The loop's invariant: the total is, modulo 2 ^ 32, `sum` and the total from i on. The
+-- `texts::parts::sum` meets its contract. The loop's invariant: the total is, modulo 2 ^ 32, `sum` and the total from i on. The
 -- measure is what is left of the bytes.
 -- Assumes nothing.
 use Prim.Native.Nat.{ℕ, _+_, _-_, _%_, _^_, _≤_, _<_}

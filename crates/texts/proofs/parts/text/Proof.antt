@@ -1,4 +1,4 @@
--- `leaves::text` meets its contract: where the bytes end before the place or before the n bytes do, what there is of them
+-- `texts::parts::text` meets its contract: where the bytes end before the place or before the n bytes do, what there is of them
 -- is what `part` takes.
 -- Assumes nothing.
 use Prim.Native.Nat.{ℕ, _-_, _≤_, _<_}

@@ -1,4 +1,4 @@
--- `leaves::within` meets its contract. The loop's invariant: all bytes keep their bounds exactly when those before i did and
+-- `texts::parts::within` meets its contract. The loop's invariant: all bytes keep their bounds exactly when those before i did and
 -- those from i on do. The measure is what is left of them.
 -- Assumes nothing.
 use Prim.Native.Nat.{ℕ, _+_, _-_, _≤_, _<_}

@@ -1,4 +1,4 @@
--- `short_ways::few::feed_few` meets its contract: the held bytes and the few stand at the front of the places, so what the search has
+-- `row_stream::short_ways::few::feed_few` meets its contract: the held bytes and the few stand at the front of the places, so what the search has
 -- found and laid there is what the call does.
 -- Assumes nothing.
 use Prim.Native.Nat.{ℕ, _+_, _-_, _≤_}

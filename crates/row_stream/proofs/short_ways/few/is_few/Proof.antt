@@ -1,4 +1,4 @@
--- `short_ways::few::is_few` meets its contract: it has passed its three tests.
+-- `row_stream::short_ways::few::is_few` meets its contract: it has passed its three tests.
 -- Assumes nothing.
 use Prim.Native.Nat.{_-_, _≤_}
 use mathlib.Core.Path.{sym, _∙_}

@@ -1,4 +1,4 @@
--- `short_ways::front::front_command` meets its contract: the six bytes are a command, and its row is laid.
+-- `row_stream::short_ways::front::front_command` meets its contract: the six bytes are a command, and its row is laid.
 -- Assumes nothing.
 use Prim.Native.Nat.{ℕ}
 use mathlib.Core.Path.{_≡_, sym, ap, _∙_}
@@ -26,14 +26,14 @@ is-command-requires c κs = search needs
 returns-2 : tie.Need-returns-2
 returns-2 c = nothing-there _ _ _ _ _ _
 
-shared-slice-read-lay-head : tie.Need-shared-slice-read-lay-head
-shared-slice-read-lay-head c = search needs
+shared-slice-read-lay-heading : tie.Need-shared-slice-read-lay-heading
+shared-slice-read-lay-heading c = search needs
 
-cast-lay-head : tie.Need-cast-lay-head
-cast-lay-head c = omega (arith, c .shared-slice-known2 .given 4)
+cast-lay-heading : tie.Need-cast-lay-heading
+cast-lay-heading c = omega (arith, c .shared-slice-known2 .given 4)
 
-lay-head-requires : tie.Need-lay-head-requires
-lay-head-requires c κs = search needs
+lay-heading-requires : tie.Need-lay-heading-requires
+lay-heading-requires c κs = search needs
 
 clear-requires : tie.Need-clear-requires
 clear-requires c κs = search needs
@@ -46,8 +46,8 @@ returns-3 c =
     let start = c .before .before .before .before .before .before .before .before .before .before .before in
     let a = start .args in
     let offered = a .offered .now in
-    let laid = c .before .before .before .lay-head .ensures in
-    let zero : c .before .before .before .lay-head .result ≡ 0 = laid .answers ∙ rw (le-leb 6 (length (a .numbers .now)) (omega (arith, start .pre .row))) in
+    let laid = c .before .before .before .lay-heading .ensures in
+    let zero : c .before .before .before .lay-heading .result ≡ 0 = laid .answers ∙ rw (le-leb 6 (length (a .numbers .now)) (omega (arith, start .pre .row))) in
     let is-command = sym (c .before .before .before .before .before .before .before .is-command .ensures) ∙ not-false _ (c .before .before .before .before .before .before .if2 .left) in
     let code : getD offered 4 0 ≡ getD (take 6 offered) 4 0 = sym (getD-take 6 offered 4 0 (omega arith)) in
     frame-there 3 (a .at) (a .skipped) (a .held .now) offered 6 _ family-3 (c .before .before .before .before .before .before .before .before .before .if1 .left) (a-command (take 6 offered) is-command) (λ six. omega (arith, six)) (a .numbers .now) _ _ (start .pre .row) (omega arith) (omega arith)
@@ -62,9 +62,9 @@ front-command-spec =
     slice-aggregate-is-command
     is-command-requires
     returns-2
-    shared-slice-read-lay-head
-    cast-lay-head
-    lay-head-requires
+    shared-slice-read-lay-heading
+    cast-lay-heading
+    lay-heading-requires
     clear-requires
     same-length
     returns-3)

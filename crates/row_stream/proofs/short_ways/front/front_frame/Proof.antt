@@ -1,4 +1,4 @@
--- `short_ways::front::front_frame` meets its contract: each family has its own, and sentences none.
+-- `row_stream::short_ways::front::front_frame` meets its contract: each family has its own, and sentences none.
 -- Assumes nothing.
 use Rattle.row_stream.proofs.Front.{nothing-there}
 use borrow.Author.Needs.{needs}

@@ -1,4 +1,4 @@
--- `short_ways::going::feed_on` meets its contract: all bytes are kept, and the row is that of more wanted.
+-- `row_stream::short_ways::going::feed_on` meets its contract: all bytes are kept, and the row is that of more wanted.
 -- Assumes nothing.
 use Prim.Native.Nat.{_+_}
 use mathlib.Core.Path.{_≡_, refl, ap, _∙_}
@@ -22,8 +22,8 @@ lay-requires c κs = search needs
 keep-part-requires : tie.Need-keep-part-requires
 keep-part-requires c κs = search needs
 
-lay-head-requires : tie.Need-lay-head-requires
-lay-head-requires c κs = search needs
+lay-heading-requires : tie.Need-lay-heading-requires
+lay-heading-requires c κs = search needs
 
 cast-left-so : tie.Need-cast-left-so
 cast-left-so c = let start = c .before .before .before .before .before .before .before .before in omega (arith, start .pre .0 .few .behind)
@@ -39,8 +39,8 @@ returns c = λ long.
     let start = c .before .before .before .before .before .before .before .before .before in
     let a = start .args in
     let few = start .pre .0 .few in
-    let laid = c .before .before .lay-head .ensures in
-    let zero : c .before .before .lay-head .result ≡ 0 = laid .answers ∙ rw (le-leb 6 (length (a .numbers .now)) (omega (arith, start .pre .1 .row))) in
+    let laid = c .before .before .lay-heading .ensures in
+    let zero : c .before .before .lay-heading .result ≡ 0 = laid .answers ∙ rw (le-leb 6 (length (a .numbers .now)) (omega (arith, start .pre .1 .row))) in
     let behind = c .before .before .before .before .before .before .lay .ensures long in
     rw (c .left-so .ensures)
     (goes-on (a .family) (a .count) (a .at) (a .skipped) (a .held .now) (a .others .now) (take (a .count) (a .held .now) ++ a .others .now) (a .numbers .now)
@@ -52,4 +52,4 @@ returns c = λ long.
 pub feed-on-spec : {M : Type 1} → statement M
 feed-on-spec =
     tie.close
-    (tie.spec add-all lay-requires keep-part-requires lay-head-requires cast-left-so left-so-requires same-length returns)
+    (tie.spec add-all lay-requires keep-part-requires lay-heading-requires cast-left-so left-so-requires same-length returns)

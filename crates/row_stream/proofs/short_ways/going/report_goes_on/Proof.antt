@@ -1,4 +1,4 @@
--- `short_ways::going::report_goes_on` meets its contract, by its tests.
+-- `row_stream::short_ways::going::report_goes_on` meets its contract, by its tests.
 -- Assumes nothing.
 use mathlib.Core.Path.{sym, ap, _∙_}
 use mathlib.Core.Bool.{false≢true}

@@ -1,4 +1,4 @@
--- `short_ways::row_search::first_stop` meets its contract: a whole report is a stop, and else the walk has found it.
+-- `row_stream::short_ways::row_search::first_stop` meets its contract: a whole report is a stop, and else the walk has found it.
 -- Assumes nothing.
 use Rattle.spe.proofs.Beginning.{begun}
 use Rattle.search.proofs.Searching.{begun-whole}

@@ -1,4 +1,4 @@
--- `short_ways::row_search::report_begun` meets its contract, by its two tests.
+-- `row_stream::short_ways::row_search::report_begun` meets its contract, by its two tests.
 -- Assumes nothing.
 use mathlib.Core.Path.{sym, _∙_}
 use mathlib.Core.Bool.{false≢true}

@@ -1,4 +1,4 @@
--- `short_ways::row_search::seek_row` meets its contract: a report that has begun and is not whole is undecided, and else the walk has
+-- `row_stream::short_ways::row_search::seek_row` meets its contract: a report that has begun and is not whole is undecided, and else the walk has
 -- come to what is sought.
 -- Assumes nothing.
 use mathlib.Core.Path.{_≡_, refl, sym, ap, _∙_}

@@ -1,4 +1,4 @@
--- `rows::put_head` meets its contract: the two counts are stored over zeros.
+-- `rows::laying::put_heading` meets its contract: the two counts are stored over zeros.
 -- Assumes nothing.
 use Prim.Native.Nat.{ℕ, _%_, _^_}
 use mathlib.Core.Path.{_≡_}
@@ -9,10 +9,10 @@ use mir.Val.{toZ, ofZ}
 use mir.ValLaws.{toZ-pos}
 use lib.IntN.{ℤ, pos}
 use lib.ListN.{set, length-set}
-use Rattle.rows.specs.Rows.{counted, head, laidAt}
+use Rattle.rows.specs.Rows.{counted, heading, laidAt}
 use borrow.Author.Needs.{needs}
-use Rattle.rows.proofs.laying.put_head.Statement.{statement}
-use Rattle.rows.proofs.laying.put_head.Tie as tie
+use Rattle.rows.proofs.laying.put_heading.Statement.{statement}
+use Rattle.rows.proofs.laying.put_heading.Tie as tie
 
 -- a count is stored as it is
 stored : (z : ℤ) (n : ℕ) → z ≡ counted n → toZ w64 (ofZ w64 z) ≡ counted n
@@ -20,7 +20,7 @@ stored z n e = rw e (toZ-pos w64 (n % 2 ^ 63) (omega arith))
 
 filled : (kind code taken start skipped size : ℕ) (numbers laid : List ℤ) (x y : ℤ)
     → laid ≡ laidAt 0 (pos kind ∷ pos code ∷ pos 0 ∷ pos start ∷ pos skipped ∷ pos 0 ∷ []) numbers → x ≡ counted taken → y ≡ counted size
-    → set (set laid 2 x) 5 y ≡ laidAt 0 (head kind code taken start skipped size) numbers
+    → set (set laid 2 x) 5 y ≡ laidAt 0 (heading kind code taken start skipped size) numbers
 unfolding laidAt
 filled kind code taken start skipped size numbers laid x y e p q = rw (e, p, q)
 
@@ -51,8 +51,8 @@ returns : tie.Need-returns
 returns c =
     filled _ _ _ _ _ _ _ _ _ _ (c .before .before .before .put-numbers .ensures) (stored _ _ (c .before .count .ensures)) (stored _ _ (c .count2 .ensures))
 
-pub put-head-spec : {M : Type 1} → statement M
-put-head-spec =
+pub put-heading-spec : {M : Type 1} → statement M
+put-heading-spec =
     tie.close
     (tie.spec
     slice-aggregate-put-numbers
