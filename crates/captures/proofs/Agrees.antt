@@ -15,7 +15,7 @@ use Rattle.stream_rules.specs.Rule.{Look, ready, waiting, look, byLook}
 use Rattle.stream_rules.specs.Lister.{fits, firstFrame, firstPlace, frameFrom, placeFrom}
 use Rattle.stream_laws.proofs.Looks.{drains, rule-drains}
 use Rattle.stream_laws.proofs.Families.{facts}
-use Rattle.lister.proofs.Walk.{left}
+use Rattle.search.proofs.Walk.{left}
 use Rattle.captures.specs.declared.spans.Span.{Span}
 use Rattle.captures.specs.Finds.{nothing, firstWanted, nextIn}
 

@@ -17,7 +17,7 @@ use Rattle.texts.specs.Parts.{placeIn}
 use Rattle.search.specs.Sought.{firstFrom}
 use Rattle.search.specs.declared.First.{First}
 use Rattle.search.specs.declared.First.the-variants.{At, Nothing}
-use Rattle.lister.proofs.Walk.{left, Next, next, no-next, at-end}
+use Rattle.search.proofs.Walk.{left, Next, next, no-next, at-end}
 use Rattle.captures.specs.declared.spans.Span.{Span}
 use Rattle.captures.specs.Finds.{isReport, nothing, firstWanted, nextIn}
 

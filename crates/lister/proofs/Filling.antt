@@ -19,7 +19,7 @@ use Rattle.stream_laws.proofs.Starts.{NotGood, rule-skips, rule-at-good}
 use Rattle.lister.specs.Fills.{Fills}
 use Rattle.lister.specs.Sizes.{sizeAt, Passes}
 use Rattle.lister.proofs.Sizes.{too-short, some-size, no-size}
-use Rattle.lister.proofs.Walk.{left, at-end}
+use Rattle.search.proofs.Walk.{left, at-end}
 
 -- all starts of a capture
 abbrev pub all : ℕ → List ℕ → List ℕ

@@ -1,9 +1,7 @@
 -- `Sizes` has the length of a good frame at the head, `Packets` that of a command and of a reply by their tests, `Names` how a
--- sentence begins, and `Skips` which starts are passed over together. `Walk` has what one step along a capture says of the
--- frames that are left, and `Filling` how the list of starts is filled.
+-- sentence begins, and `Skips` which starts are passed over together, and `Filling` how the list of starts is filled.
 pub mod Filling
 pub mod Names
 pub mod Packets
 pub mod Sizes
 pub mod Skips
-pub mod Walk

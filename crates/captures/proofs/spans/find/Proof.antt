@@ -17,7 +17,7 @@ use Rattle.rules.specs.declared.Frame.{Frame}
 use Rattle.rules.specs.declared.Frame.the-variants.{Ack, Status, Command, Apa02, Apa03, Apa05, Other}
 use Rattle.rules.proofs.Frame.{the-type}
 use Rattle.stream_rules.specs.Lister.{fits}
-use Rattle.lister.proofs.Walk.{left, Next, next, no-next, at-end}
+use Rattle.search.proofs.Walk.{left, Next, next, no-next, at-end}
 use Rattle.captures.specs.declared.spans.Span.{Span}
 use Rattle.captures.specs.Finds.{isReport, spanOf, nothing, firstWanted, nextIn}
 use Rattle.captures.proofs.spans.find.Statement.{statement}

@@ -16,7 +16,7 @@ use Rattle.stream_rules.specs.declared.Listed.{Listed}
 use Rattle.stream_rules.specs.declared.Listed.the-variants.{Count, Refused}
 use Rattle.stream_laws.proofs.Saying.{lists}
 use Rattle.lister.specs.Fills.{Fills}
-use Rattle.lister.proofs.Walk.{few-frames}
+use Rattle.search.proofs.Walk.{few-frames}
 use Rattle.lister.proofs.lists.list_frames.Statement.{statement}
 use Rattle.lister.proofs.lists.list_frames.Tie as tie
 
