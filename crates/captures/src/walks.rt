@@ -1,5 +1,5 @@
 // The capture reader: it holds the lent capture and the place reached, and gives the next frame as a
-// part of the capture. The work is done by `finds::find`, on a slice and a number.
+// part of the capture. The work is done by `find`, on a slice and a number.
 use crate::spans::find;
 use texts::text;
 ghost use mathlib.Core.Path.{_≡_};

@@ -1,4 +1,4 @@
--- `amp::amp_feed` meets its contract: a walk of its MIR, by hand. The borrow of the reader is opened, and the reader is worked on where it lies: five of its parts are read, its held places are lent to `fed_rows::feed_row` and taken back as that leaves them, and three counts are stored. The borrow is closed at the reader that lies there then.
+-- `amp::amp_feed` meets its contract: a walk of its MIR, by hand. The borrow of the reader is opened, and the reader is worked on where it lies: five of its parts are read, its held places are lent to `row_stream::feed_row` and taken back as that leaves them, and three counts are stored. The borrow is closed at the reader that lies there then.
 -- All that the proof knows of the callee is that it meets its contract: what that says of the reader's parts is said of the reader, which is the record of its parts, and has as many held places as their type says.
 -- The offered bytes are Copy, so what they own is had twice, and one copy goes to the callee. The lent numbers are given up for good, at their own lifetime, share and name: what the callee says of the last list under that name is what is said at exit.
 -- Assumes nothing.
