@@ -131,7 +131,7 @@ uint32_t amp_read(uint32_t family, const uint8_t *bytes, size_t bytes_len,
 uint32_t amp_list(uint32_t family, const uint8_t *capture, size_t capture_len,
                   uint32_t *starts, size_t starts_len, size_t *count);
 
-/* The size of the next frame from a place on, and its start. The size is 0, and start is left as it was,
+/* The length of the next frame from a place on, and its start. The length is 0, and start is left as it was,
  * where there is none, the place is beyond the end, or amp_list would refuse the family or the length.
  * With reports other than 0 only a status report is one. */
 size_t amp_next(uint32_t family, const uint8_t *capture, size_t capture_len,

@@ -20,7 +20,7 @@ use Rattle.alpha.specs.Fields.{Text}
 use Rattle.texts.specs.Parts.{inBounds}
 use Rattle.alpha.specs.Payloads.{isGoodPayload}
 use Rattle.alpha.proofs.Rows.{each}
-use Rattle.alpha.proofs.Payloads.{as02}
+use Rattle.alpha.proofs.Payloads.{by02}
 use Rattle.alpha.proofs.Bounds.{rowOf, Formed, formed}
 use Rattle.alpha.proofs.FullWidth.{full-fields, known, digit}
 
@@ -68,7 +68,7 @@ module _ (p : List ℕ) (size : length p ≡ 57)
     unfolding is02
     good02 =
         let clean = every-weaker (every isDigit) (every isTextByte) digits-text ts02 (form02 .texts) in
-        known 2 ts02 (lit< tt) clean written02 ∙ rw (as02 2 ts02 refl, fields02, in-range02)
+        known 2 ts02 (lit< tt) clean written02 ∙ rw (by02 2 ts02 refl, fields02, in-range02)
 
 -- The same by the tests, as they are made.
 pub full02 : (p : List ℕ) (good : Bool) (weight : ℕ) → length p ≡ 57

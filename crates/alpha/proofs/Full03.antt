@@ -20,7 +20,7 @@ use Rattle.alpha.specs.Fields.{Text}
 use Rattle.texts.specs.Parts.{inBounds}
 use Rattle.alpha.specs.Payloads.{isGoodPayload}
 use Rattle.alpha.proofs.Rows.{each}
-use Rattle.alpha.proofs.Payloads.{as03}
+use Rattle.alpha.proofs.Payloads.{by03}
 use Rattle.alpha.proofs.Bounds.{rowOf, Formed, formed}
 use Rattle.alpha.proofs.FullWidth.{full-fields, known, digit}
 
@@ -118,7 +118,7 @@ module _ (p : List ℕ) (size : length p ≡ 43)
     good03 =
         let digits = every-weaker (every isDigit) (every isTextByte) digits-text numbers (form03 .texts) in
         let clean = every-append (every isTextByte) numbers (heat ∷ []) digits (every-cons (every isTextByte) heat [] (heat-good .1) refl) in
-        known 3 ts03 (lit< tt) clean written03 ∙ rw (as03 3 ts03 refl, fields03, heat-good .0, in-range03)
+        known 3 ts03 (lit< tt) clean written03 ∙ rw (by03 3 ts03 refl, fields03, heat-good .0, in-range03)
 
 -- The same by the tests, as they are made.
 pub full03 : (p : List ℕ) (good : Bool) → length p ≡ 43

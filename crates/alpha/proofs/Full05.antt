@@ -19,7 +19,7 @@ use Rattle.frame_laws.proofs.SentenceFields.{hexes-text}
 use Rattle.alpha.specs.Fields.{Text}
 use Rattle.texts.specs.Parts.{inBounds}
 use Rattle.alpha.specs.Payloads.{isGoodPayload, outsideGap}
-use Rattle.alpha.proofs.Payloads.{as05}
+use Rattle.alpha.proofs.Payloads.{by05}
 use Rattle.alpha.proofs.Bounds.{rowOf, Formed, formed}
 use Rattle.alpha.proofs.FullWidth.{known}
 
@@ -88,4 +88,4 @@ module _ (p : List ℕ) (size : length p ≡ 26)
   unfolding is05
   full05 =
       let clean = hexes-text ts05 fields05 in
-      known 5 ts05 (lit< tt) clean written05 ∙ rw (as05 5 ts05 refl, fields05)
+      known 5 ts05 (lit< tt) clean written05 ∙ rw (by05 5 ts05 refl, fields05)

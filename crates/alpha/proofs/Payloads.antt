@@ -11,9 +11,9 @@ use lib.Seq.{length-take-le, take-all}
 use borrow.Author.Tests.{ne-eqb}
 use Rattle.rules.specs.Bytes.{part, every}
 use Rattle.rules.specs.Numbers.{isDigit, isHexDigit, hexNumber}
-use Rattle.rules.specs.Sentences.{nothingOrComma, givesSums, sum1, sum2, numberOf, is02, is03, is05, sentence02, sentence03, sentence05}
+use Rattle.rules.specs.Sentences.{nothingOrComma, givesSums, sum1, sum2, numberOf}
 use Rattle.rules.specs.Answers.{readTexts}
-use Rattle.rules.specs.declared.Frame.the-variants.{Apa02, Apa03, Apa05, Other}
+use Rattle.rules.specs.declared.Frame.the-variants.{Other}
 use Rattle.rules.specs.declared.Reading.the-variants.{Good}
 use Rattle.frame_laws.proofs.Bytes.{one-by-one}
 use Rattle.texts.specs.Numbers.{digitsIn}
@@ -22,7 +22,7 @@ use Rattle.checksums.specs.Hex.{pairIn}
 use Rattle.checksums.specs.declared.hexadecimal.HexByte.{HexByte}
 use Rattle.checksums.proofs.Digits.{pair-gives}
 use Rattle.alpha.specs.Fields.{Text}
-use Rattle.alpha.specs.Held.{frameIf}
+use Rattle.alpha.specs.Readings.{as02, as03, as05}
 use Rattle.alpha.proofs.Texts.{as-wide, counted, count-below}
 
 -- Behind `APA` stand two digits, and then nothing or a comma.
@@ -77,17 +77,17 @@ checked allowed check p four upper lower e f =
 
 -- The answer, by the number.
 module _ (n : ℕ) (ts : List Text) where
-  pub as02 : n ≡ 2 → readTexts n ts ≡ frameIf (is02 ts) (Apa02 (sentence02 ts))
+  pub by02 : n ≡ 2 → readTexts n ts ≡ as02 ts
   unfolding readTexts
-  as02 e = rw e
+  by02 e = rw e
 
-  pub as03 : n ≡ 3 → readTexts n ts ≡ frameIf (is03 ts) (Apa03 (sentence03 ts))
+  pub by03 : n ≡ 3 → readTexts n ts ≡ as03 ts
   unfolding readTexts
-  as03 e = rw e
+  by03 e = rw e
 
-  pub as05 : n ≡ 5 → readTexts n ts ≡ frameIf (is05 ts) (Apa05 (sentence05 ts))
+  pub by05 : n ≡ 5 → readTexts n ts ≡ as05 ts
   unfolding readTexts
-  as05 e = rw e
+  by05 e = rw e
 
   pub as-other : (n ≡ 2 → ⊥) → (n ≡ 3 → ⊥) → (n ≡ 5 → ⊥) → readTexts n ts ≡ Good (Other n)
   unfolding readTexts

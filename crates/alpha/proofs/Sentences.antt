@@ -20,7 +20,7 @@ use Rattle.rules.specs.declared.Frame.{Frame}
 use Rattle.rules.specs.declared.Reading.the-variants.{Good, Refused}
 use Rattle.texts.proofs.FieldEnds.{at-end, at-field}
 use Rattle.alpha.specs.Fields.{Text, firstIs, begins, hexValue, FieldAt, FieldsAt}
-use Rattle.alpha.specs.Held.{frameIf}
+use Rattle.alpha.specs.Readings.{frameIf}
 
 abbrev pub ended : List Text → Bool
 ended [] = true
@@ -70,7 +70,7 @@ last-text test zero (t ∷ u ∷ ts) = rw (eqb·suc-suc, eqb·suc-zero) (sym (an
 last-text test (suc n) [] = rw (eqb·zero-suc)
 last-text test (suc n) (t ∷ ts) = rw (eqb·suc-suc) (last-text test n ts)
 
--- A sentence that is refused, and one that is frameIf.
+-- A sentence that is refused, and one that is good.
 pub refused : {keeps : Bool} (frame : Frame) → keeps ≡ false → Refused notGood ≡ frameIf keeps frame
 refused frame e = rw e
 

@@ -1,5 +1,5 @@
 -- What the parts of the sentence reader give back.
 pub mod Fields
 pub mod Values
-pub mod Held
+pub mod Readings
 pub mod Payloads

@@ -15,12 +15,12 @@ ghost use lib.ListN.{length};
 ghost use Rattle.rules.specs.Bytes.{part, every};
 ghost use Rattle.rules.specs.Numbers.{isDigit};
 ghost use Rattle.rules.specs.Sentences.{isNamed, isSentence, numberOf, textsOf};
-ghost use Rattle.rules.specs.Answers.{Reads, isGood, readTexts, readFamily2};
+ghost use Rattle.rules.specs.Answers.{sentences, Reads, isGood, readTexts, readFamily2};
 ghost use Rattle.alpha.specs.Payloads.{isChecked};
 
 // The record of a good sentence, its number where it has none, or the refusal 8.
 pub fn read_sentence(s: &[u8]) -> Reading
-    ensures { λ r. ⌜ Reads 2 (now (s .entry)) r ⌝ }
+    ensures { λ r. ⌜ Reads sentences (now (s .entry)) r ⌝ }
 {
     if !is_framed(s) {
         return Reading::Refused(NOT_GOOD);

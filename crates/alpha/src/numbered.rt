@@ -9,12 +9,12 @@ use rules::Sentence02;
 use rules::Sentence03;
 use rules::Sentence05;
 ghost use mathlib.Core.Path.{_≡_};
-ghost use Rattle.rules.specs.Sentences.{behindCommas, is02, is03, is05, sentence02, sentence03, sentence05};
-ghost use Rattle.alpha.specs.Held.{frameIf};
+ghost use Rattle.rules.specs.Sentences.{behindCommas};
+ghost use Rattle.alpha.specs.Readings.{as02, as03, as05};
 
 // Thirteen decimal fields, and nothing behind them.
 pub(crate) fn read02(r: &[u8]) -> Reading
-    ensures { λ x. ⌜ x ≡ frameIf (is02 (behindCommas (now (r .entry)))) (Frame.Apa02 (sentence02 (behindCommas (now (r .entry))))) ⌝ }
+    ensures { λ x. ⌜ x ≡ as02 (behindCommas (now (r .entry))) ⌝ }
 {
     let row = fields::decimals(r, &WIDTHS02);
     if !row.good {
@@ -47,7 +47,7 @@ pub(crate) fn read02(r: &[u8]) -> Reading
 
 // Eight decimal fields, a temperature, and nothing behind it.
 pub(crate) fn read03(r: &[u8]) -> Reading
-    ensures { λ x. ⌜ x ≡ frameIf (is03 (behindCommas (now (r .entry)))) (Frame.Apa03 (sentence03 (behindCommas (now (r .entry))))) ⌝ }
+    ensures { λ x. ⌜ x ≡ as03 (behindCommas (now (r .entry))) ⌝ }
 {
     let row = fields::decimals(r, &WIDTHS03);
     if !row.good {
@@ -81,7 +81,7 @@ pub(crate) fn read03(r: &[u8]) -> Reading
 // Seven fields of two hexadecimal digits, and nothing behind them. The first four hold a number in
 // each nibble.
 pub(crate) fn read05(r: &[u8]) -> Reading
-    ensures { λ x. ⌜ x ≡ frameIf (is05 (behindCommas (now (r .entry)))) (Frame.Apa05 (sentence05 (behindCommas (now (r .entry))))) ⌝ }
+    ensures { λ x. ⌜ x ≡ as05 (behindCommas (now (r .entry))) ⌝ }
 {
     let row = fields::hexes(r);
     if !row.good {

@@ -18,16 +18,13 @@ use Rattle.frame_laws.proofs.Numbers.{zeros-length}
 use Rattle.pens.specs.Pens.{laid, fieldIn}
 use Rattle.pens.proofs.Laid.{laid-behind, length-laid, laid-none}
 use Rattle.pens.proofs.Rows.{zeros-row}
-
--- the fields of widths and numbers, each behind its comma
-abbrev fields : List ℕ → List ℕ → List ℕ
-fields ws ns = commas (decimals ws ns)
+use Rattle.alpha_writer.specs.Parts.{decimalFields}
 
 -- `ws` and `ns` are left to lay from the place on, and laid there give `whole`
 pub record Left (place : ℕ) (ws ns out whole : List ℕ) : Type 0 where
   pub fits : fit ws ns ≡ true
-  pub room : place + length (commas (decimals ws ns)) ≤ length out
-  pub rest : laid place (commas (decimals ws ns)) out ≡ whole
+  pub room : place + length (decimalFields ws ns) ≤ length out
+  pub rest : laid place (decimalFields ws ns) out ≡ whole
 
 -- one field laid
 next : {place w n : ℕ} {ws ns out after whole : List ℕ} → Left place (w ∷ ws) (n ∷ ns) out whole → after ≡ laid place (fieldIn (code "0") w n) out → Left (place + w + 1) ws ns after whole
@@ -36,13 +33,13 @@ next {place} {w} {n} {ws} {ns} {out} {after} {whole} l e =
     let h = both (ltb n (10 ^ w)) (fit ws ns) (l .fits) in
     let text = code "," ∷ withZeros w n in
     let wide : length text ≡ suc w = ap suc (zeros-length w n) in
-    let room : place + length text + length (fields ws ns) ≤ length out = omega (arith, length-append (withZeros w n) (fields ws ns), l .room) in
+    let room : place + length text + length (decimalFields ws ns) ≤ length out = omega (arith, length-append (withZeros w n) (decimalFields ws ns), l .room) in
     let field : after ≡ laid place text out = zeros-row w n (ltb-true n (10 ^ w) (h .0)) e .laying (omega arith) in
     let kept : length after ≡ length out = ap length field ∙ length-laid place text out in
     let here : place + w + 1 ≡ place + length text = omega arith in record {
       fits = h .1;
       room = omega arith;
-      rest = rw (here, field) (laid-behind place text (fields ws ns) out room ∙ l .rest);
+      rest = rw (here, field) (laid-behind place text (decimalFields ws ns) out room ∙ l .rest);
     }
 
 -- and so by an index into widths and numbers

@@ -15,14 +15,14 @@ ghost use lib.IntN.{natAbs};
 ghost use lib.ListN.{length, take};
 ghost use Rattle.rules.specs.Answers.{Writes, noRecord, noRoom};
 ghost use Rattle.rules.specs.Bytes.{part};
-ghost use Rattle.rules.specs.Sentences.{fit, decimals, commas, sign, inRange02, inRange03, inRange05, texts05, bytes02, bytes03, bytes05, enableBytes};
+ghost use Rattle.rules.specs.Sentences.{commas, sign, inRange02, inRange03, inRange05, texts05, bytes02, bytes03, bytes05, enableBytes};
 ghost use Rattle.pens.specs.Pens.{laid};
-ghost use Rattle.alpha_writer.specs.Parts.{seal, temperatureField, hexField};
+ghost use Rattle.alpha_writer.specs.Parts.{seal, temperatureField, hexField, decimalFields, FieldsFit};
 
 // A comma and a number for each width.
 fn put_decimals(out: &mut [u8], at: usize, widths: &[usize], numbers: &[u32])
-    requires { ⌜ (length (now widths) ≡ length (now numbers)) × (fit (now widths) (now numbers) ≡ true) × (at + length (commas (decimals (now widths) (now numbers))) ≤ length (now out)) ⌝ }
-    ensures { λ _. ⌜ now (out .exit) ≡ laid at (commas (decimals (now (widths .entry)) (now (numbers .entry)))) (now (out .entry)) ⌝ }
+    requires { ⌜ FieldsFit (now widths) (now numbers) (now out) at ⌝ }
+    ensures { λ _. ⌜ now (out .exit) ≡ laid at (decimalFields (now (widths .entry)) (now (numbers .entry))) (now (out .entry)) ⌝ }
 {
     let mut place = at;
     let mut i = 0;

@@ -32,7 +32,7 @@ pub nexts-single : (family : ℕ) (capture : List ℕ) (place reports was a b x 
     → Nexts family capture place reports was a x → Nexts family capture place reports was b y
     → (a ≡ b) × (x ≡ y)
 nexts-single family capture place reports was a b x y p q =
-    let e = one-answer (p .sizes) (q .sizes) in
+    let e = one-answer (p .lengths) (q .lengths) in
     (e, p .starts ∙ rw e (sym (q .starts)))
 
 pub order-single : (a b x y : ℕ) → x ≡ orderNumber (order a b) → y ≡ orderNumber (order a b) → x ≡ y

@@ -43,11 +43,11 @@ pub record ListsStarts (family : ℕ) (capture starts : List ℕ) (count result 
   pub content : left ≡ listLeft family capture starts
   pub counts : counted ≡ countOr (listed family capture starts) count
 
--- The next frame from a place on, or the next status report where reports is not 0: its size, and its start in the lent
--- number. Where there is none the size is 0, and the lent number is as it was.
-pub record Nexts (family : ℕ) (capture : List ℕ) (place reports was size start : ℕ) : Type 0 where
-  pub sizes : size ≡ nextIn family capture place (not (eqb reports 0)) .size
-  pub starts : start ≡ cond (eqb size 0) was (nextIn family capture place (not (eqb reports 0)) .start)
+-- The next frame from a place on, or the next status report where reports is not 0: its length, and its start in the lent
+-- number. Where there is none the length is 0, and the lent number is as it was.
+pub record Nexts (family : ℕ) (capture : List ℕ) (place reports was length start : ℕ) : Type 0 where
+  pub lengths : length ≡ nextIn family capture place (not (eqb reports 0)) .length
+  pub starts : start ≡ cond (eqb length 0) was (nextIn family capture place (not (eqb reports 0)) .start)
 
 -- 1 is earlier, 2 later, 3 equal, and 4 that it can't be said
 abbrev pub orderNumber : Order → ℕ

@@ -149,7 +149,7 @@ pub extern "C" fn amp_list(
     }
 }
 
-// The next frame of a capture from a place on: its size, and its start where there is one.
+// The next frame of a capture from a place on: its length, and its start where there is one.
 #[no_mangle]
 pub extern "C" fn amp_next(
     family: u32,
@@ -161,11 +161,11 @@ pub extern "C" fn amp_next(
     ensures { λ r. ⌜ Nexts family (now (capture .entry)) place reports (now (start .entry)) r (now (start .exit)) ⌝ }
 {
     let span = captures::find(family_byte(family), capture, place, reports != 0);
-    let size = span.size;
-    if size != 0 {
+    let length = span.length;
+    if length != 0 {
         *start = span.start;
     }
-    size
+    length
 }
 
 // How stamp a stands to stamp b.

@@ -21,7 +21,7 @@ use Rattle.captures.specs.Finds.{nothing, firstWanted, nextIn}
 
 module _ (family : ℕ) (bs : List ℕ) (place : ℕ) where
   abbrev Same : List ℕ → ℕ → Span → Type 0
-  Same bytes at s = (bytes ≡ part (s .start) (s .size) bs) × (at ≡ s .start)
+  Same bytes at s = (bytes ≡ part (s .start) (s .length) bs) × (at ≡ s .start)
 
   by-look : (l : Look)
       → Same (byLook l (λ k n f behind. part k n (drop place bs)) (λ k rest. [])) (byLook l (λ k n f behind. place + k) (λ k rest. 0)) (firstWanted false place (drains (head family) place 0 l))

@@ -17,7 +17,7 @@ use Rattle.captures.specs.Captures.{PartAt, GivesAt, Gives}
 
 -- what `text` promises of the part that a span is
 abbrev pub TextOf : RefT (List ℕ) → Span → RefT (List ℕ) → Type 0
-TextOf capture s r = PartOf capture (placeIn (s .start) (now capture)) (part (s .start) (s .size) (now capture)) r
+TextOf capture s r = PartOf capture (placeIn (s .start) (now capture)) (part (s .start) (s .length) (now capture)) r
 
 -- the reader at the place behind a span
 abbrev pub moved : CaptureReader → Span → CaptureReader

@@ -24,12 +24,12 @@ use Rattle.captures.specs.Finds.{isReport, nothing, firstWanted, nextIn}
 -- A part of the bytes from the span's start on stands at that start. Either it is empty and the place unchanged, or the place
 -- reached is just behind it, further on, and not past the end.
 pub record Stays (place : ℕ) (s : Span) : Type 0 where
-  pub none : s .size ≡ 0
+  pub none : s .length ≡ 0
   pub unchanged : s .behind ≡ place
 
 pub record GoesOn (bs : List ℕ) (place : ℕ) (s : Span) : Type 0 where
-  pub some : 0 < s .size
-  pub just-behind : s .behind ≡ s .start + s .size
+  pub some : 0 < s .length
+  pub just-behind : s .behind ≡ s .start + s .length
   pub further : place < s .behind
   pub inside : s .behind ≤ length bs
 
@@ -49,13 +49,13 @@ module _ (family : ℕ) (bs : List ℕ) (place : ℕ) (reports : Bool) where
   unfolding firstWanted
   none-left at e = subst (λ (l : Span). Spanned bs place l) (sym (ap (firstWanted reports place) e)) none-spanned
 
-  one-spanned : (start size : ℕ) (on : Span) → 0 < size → place ≤ start → start + size ≤ length bs → Spanned bs place on
-      → (wanted : Bool) → Spanned bs place (cond wanted (record { start = start; size = size; behind = start + size }) on)
-  one-spanned start size on some later there rest true = record {
+  one-spanned : (start long : ℕ) (on : Span) → 0 < long → place ≤ start → start + long ≤ length bs → Spanned bs place on
+      → (wanted : Bool) → Spanned bs place (cond wanted (record { start = start; length = long; behind = start + long }) on)
+  one-spanned start long on some later there rest true = record {
     stands = rw (lt-ltb start (length bs) (omega (arith, some, there)));
     onward = inr (record { some = some; just-behind = refl; further = omega (arith, some, later); inside = there });
   }
-  one-spanned start size on some later there rest false = rest
+  one-spanned start long on some later there rest false = rest
 
   -- one step along the capture, and the steps behind it
   step : (fuel at : ℕ)
@@ -64,18 +64,18 @@ module _ (family : ℕ) (bs : List ℕ) (place : ℕ) (reports : Bool) where
       → (x : First) → firstFrom family bs at ≡ x → Spanned bs place (firstWanted reports place (left family bs at))
   unfolding firstWanted
   step fuel at more later h Nothing e = none-left at (no-next family bs at e)
-  step fuel at more later h (At start size f) e =
-      let n : Next family bs at start size f = next family bs at start size f e in
+  step fuel at more later h (At start long f) e =
+      let n : Next family bs at start long f = next family bs at start long f e in
       subst
       (λ (l : Span). Spanned bs place l)
       (sym (ap (firstWanted reports place) (n .lists)))
       (one-spanned start
-      size
-      (firstWanted reports place (left family bs (start + size)))
+      long
+      (firstWanted reports place (left family bs (start + long)))
       (n .some)
       (omega (arith, n .place, later))
       (n .there)
-      (more (start + size) (omega (arith, n .place, later)) (omega (arith, n .place, n .some)))
+      (more (start + long) (omega (arith, n .place, later)) (omega (arith, n .place, n .some)))
       (not reports || isReport (kindOf f)))
 
   from-there : (fuel at : ℕ) → place ≤ at → length bs < at + fuel → Spanned bs place (firstWanted reports place (left family bs at))
@@ -91,19 +91,19 @@ module _ (family : ℕ) (bs : List ℕ) (place : ℕ) (reports : Bool) where
       case false = none-spanned
 
 -- So where the part is empty the place is unchanged,
-pub unmoved : (bs : List ℕ) (place : ℕ) (s : Span) → Spanned bs place s → length (part (s .start) (s .size) bs) ≡ 0 → s .behind ≡ place
+pub unmoved : (bs : List ℕ) (place : ℕ) (s : Span) → Spanned bs place s → length (part (s .start) (s .length) bs) ≡ 0 → s .behind ≡ place
 unmoved bs place s spans none = case (spans .onward)
   where
     case : Stays place s ⊎ GoesOn bs place s → s .behind ≡ place
     case (inl stays) = stays .unchanged
     case (inr on) =
-        absurd (omega (arith, length-take (s .size) (drop (s .start) bs), length-drop (s .start) bs, none, on .some, on .just-behind, on .inside))
+        absurd (omega (arith, length-take (s .length) (drop (s .start) bs), length-drop (s .start) bs, none, on .some, on .just-behind, on .inside))
 
 -- and where it shows something the place reached is further on.
-pub advances : (bs : List ℕ) (place : ℕ) (s : Span) → Spanned bs place s → (length (part (s .start) (s .size) bs) ≡ 0 → ⊥)
+pub advances : (bs : List ℕ) (place : ℕ) (s : Span) → Spanned bs place s → (length (part (s .start) (s .length) bs) ≡ 0 → ⊥)
     → (place < s .behind) × (s .behind ≤ length bs)
 advances bs place s spans some = case (spans .onward)
   where
     case : Stays place s ⊎ GoesOn bs place s → (place < s .behind) × (s .behind ≤ length bs)
-    case (inl stays) = absurd (some (omega (arith, length-take (s .size) (drop (s .start) bs), stays .none)))
+    case (inl stays) = absurd (some (omega (arith, length-take (s .length) (drop (s .start) bs), stays .none)))
     case (inr on) = (on .further, on .inside)

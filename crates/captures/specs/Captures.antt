@@ -12,7 +12,7 @@ use Rattle.captures.specs.declared.walks.CaptureReader.{CaptureReader}
 
 -- the part of a capture that a span is
 abbrev pub PartAt : RefT (List ℕ) → Span → RefT (List ℕ) → Type 0
-PartAt capture s r = PartOf capture (s .start) (part (s .start) (s .size) (now capture)) r
+PartAt capture s r = PartOf capture (s .start) (part (s .start) (s .length) (now capture)) r
 
 -- what is given from a place on, and the place reached
 pub record GivesAt (family : ℕ) (onlyReports : Bool) (capture : RefT (List ℕ)) (place place′ : ℕ) (r : RefT (List ℕ)) : Type 0 where

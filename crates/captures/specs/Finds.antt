@@ -24,10 +24,10 @@ isReport (OfSentence n) = false
 
 -- A frame is spanOf with the place just behind it; where none is left, the part is empty and the place unchanged.
 abbrev pub spanOf : Found → Span
-spanOf f = record { start = f .start; size = f .size; behind = f .start + f .size }
+spanOf f = record { start = f .start; length = f .length; behind = f .start + f .length }
 
 abbrev pub nothing : ℕ → Span
-nothing place = record { start = 0; size = 0; behind = place }
+nothing place = record { start = 0; length = 0; behind = place }
 
 -- The first of the frames; when only reports are wanted, a frame that is no status report is passed over.
 unfoldable pub firstWanted : Bool → ℕ → List Found → Span

@@ -10,11 +10,11 @@ ghost use mathlib.Core.Path.{_≡_};
 ghost use Rattle.stream_rules.specs.Lister.{NextFrame};
 ghost use Rattle.captures.specs.Finds.{nextIn};
 
-// Where a frame stands in a capture, and the place reached: just behind it. The size is 0 where there
+// Where a frame stands in a capture, and the place reached: just behind it. The length is 0 where there
 // is none; the place is then as it was.
 pub struct Span {
     pub start: usize,
-    pub size: usize,
+    pub length: usize,
     pub behind: usize,
 }
 
@@ -25,7 +25,7 @@ pub fn find(family: u8, capture: &[u8], place: usize, reports: bool) -> Span
 {
     let none = Span {
         start: 0,
-        size: 0,
+        length: 0,
         behind: place,
     };
     if !is_family(family) {
@@ -36,10 +36,10 @@ pub fn find(family: u8, capture: &[u8], place: usize, reports: bool) -> Span
     }
     let mut at = place;
     while at < capture.len() {
-        let First::At(start, size, frame) = first_good(family, capture, at) else {
+        let First::At(start, length, frame) = first_good(family, capture, at) else {
             return none;
         };
-        at = start + size;
+        at = start + length;
         if reports {
             let Frame::Status(_) = frame else {
                 continue;
@@ -47,7 +47,7 @@ pub fn find(family: u8, capture: &[u8], place: usize, reports: bool) -> Span
         }
         return Span {
             start,
-            size,
+            length,
             behind: at,
         };
     }
@@ -59,5 +59,5 @@ pub fn next_frame(family: u8, capture: &[u8], place: usize) -> &[u8]
     ensures { λ r. ⌜ NextFrame family (capture .entry) place r ⌝ }
 {
     let span = find(family, capture, place, false);
-    text(capture, span.start, span.size)
+    text(capture, span.start, span.length)
 }

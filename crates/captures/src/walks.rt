@@ -26,7 +26,7 @@ pub fn next<'s, 'a>(reader: &'s mut CaptureReader<'a>, family: u8, reports: bool
     let place = reader.place;
     let span = find(family, capture, place, reports);
     reader.place = span.behind;
-    text(capture, span.start, span.size)
+    text(capture, span.start, span.length)
 }
 
 // The same with plain parameters: a reader is made at the place, and the place that it reaches is left

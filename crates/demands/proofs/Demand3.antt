@@ -30,20 +30,20 @@ module _ (family : ℕ) (known : isFamily family ≡ true) where
   pub earliest-first-is-the-rule : (stream : List ℕ) (fs : List Found) → EarliestFirst family stream 0 fs → fs ≡ frames family stream
   earliest-first-is-the-rule = earliest.frames-only family known (facts family)
 
-  module _ (t : Turned) (begins : t ≡ fresh family) (stream sizes : List ℕ) where
+  module _ (t : Turned) (begins : t ≡ fresh family) (stream lengths : List ℕ) where
     -- However the first calls cut the stream, a session goes on from there to its end.
-    pub sessions-end : (more : List ℕ) × (answers : List Answer) × Session (t .reader) stream (sizes ++ more) answers
-    sessions-end = sessions-there.possible family known (facts family) t begins stream sizes
+    pub sessions-end : (more : List ℕ) × (answers : List Answer) × Session (t .reader) stream (lengths ++ more) answers
+    sessions-end = sessions-there.possible family known (facts family) t begins stream lengths
 
-    module _ (answers : List Answer) (session : Session (t .reader) stream sizes answers) where
+    module _ (answers : List Answer) (session : Session (t .reader) stream lengths answers) where
       -- Demand 3, of every session.
       pub every-session : Demand3 family stream answers
-      every-session = sessions.demand3 family known (facts family) t begins stream sizes answers session
+      every-session = sessions.demand3 family known (facts family) t begins stream lengths answers session
 
       -- The lister and the stream agree: modulo 2^32 on any stream, and just so on a capture.
       pub stream-starts : startsOf (handed answers) ≡ map wrap (startsOf (frames family stream))
-      stream-starts = listing.starts-agree family known (facts family) t begins stream sizes answers session
+      stream-starts = listing.starts-agree family known (facts family) t begins stream lengths answers session
 
       pub listed-starts : (out : List ℕ) (n : ℕ) (after : List ℕ) → Lists family stream out (Count n) after
           → (n ≡ length (handed answers)) × (take n after ≡ startsOf (handed answers))
-      listed-starts = listing.lister-agrees family known (facts family) t begins stream sizes answers session
+      listed-starts = listing.lister-agrees family known (facts family) t begins stream lengths answers session

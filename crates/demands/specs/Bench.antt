@@ -87,7 +87,7 @@ abbrev pub acknowledged : ℕ → ℕ → ℕ → ℕ → Answer
 acknowledged taken start skipped code = Ready (record { taken = taken; start = start; skipped = skipped; length = 6; frame = Ack code })
 
 abbrev pub foundAck : ℕ → ℕ → ℕ → Found
-foundAck start skipped code = record { start = start; skipped = skipped; size = 6; frame = Ack code }
+foundAck start skipped code = record { start = start; skipped = skipped; length = 6; frame = Ack code }
 
 abbrev pub emptied : ℕ → Fed
 emptied family = fed (shut (fresh family .reader) .reader) []
@@ -144,7 +144,7 @@ pub record BenchSheet : Type 0 where
       ≡ record {
         start = 5;
         skipped = 5;
-        size = 32;
+        length = 32;
         frame = Apa05 record7;
       } ∷ []
   -- 10. Code 90 is not acknowledged, and is a command.

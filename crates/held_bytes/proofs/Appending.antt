@@ -1,4 +1,5 @@
--- Bytes laid behind the first ones of the places: where there is room for them, what stands at the front is the first ones with them.
+-- Bytes laid behind the first ones of the places: where there is room for them, what stands at the front is the first
+-- ones with them.
 -- Assumes nothing.
 use Prim.Native.Nat.{ℕ, _+_, _≤_}
 use mathlib.Core.Path.{_≡_, ap, _∙_}

@@ -51,8 +51,8 @@ module _ (family at skipped : ℕ) (held cs ds left : List ℕ) (m : Moved) (ope
           subst (λ (c : Call). Opens family at skipped c left m) (is ∙ sym (piece-gives (facts family) held cs taken k n f kept is ds)) opens
       by-call (wants taken k kept) is = absurd (never taken (ap (λ (x : Fed). x .answer) (rw is at (opens 0))))
 
--- What a piece that wants more says of the rest: how many bytes were taken, that what was kept is short enough to be held, and that a
--- call from there on is the whole call.
+-- What a piece that wants more says of the rest: how many bytes were taken, that what was kept is short enough to be
+-- held, and that a call from there on is the whole call.
 pub record Goes (family at skipped : ℕ) (held offered : List ℕ) (m : Moved) (taken : ℕ) : Type 0 where
   pub all-taken : taken ≡ 133
   pub short : m .count < longest family

@@ -1,5 +1,5 @@
--- What is left of a reader's parts is what the rules say of the call: where a frame is handed out, where more is wanted, and behind a
--- call that went before.
+-- What is left of a reader's parts is what the rules say of the call: where a frame is handed out, where more is
+-- wanted, and behind a call that went before.
 -- Assumes nothing.
 use Prim.Native.Nat.{ℕ, _+_, _-_, _≤_}
 use mathlib.Core.Path.{_≡_, refl, sym, ap, _∙_}
@@ -13,7 +13,7 @@ use Rattle.stream_rules.specs.Rule.{Call, gives, wants}
 use Rattle.stream_rules.specs.Streams.{wrap, openCall, filled}
 use Rattle.stream_rules.specs.declared.Answer.the-variants.{Ready, More}
 use Rattle.stream_laws.proofs.CallsAtOnce.{after}
-use Rattle.held_bytes.specs.Places.{readerAt, fedAt}
+use Rattle.held_bytes.specs.Places.{readerAt}
 use Rattle.held_bytes.specs.declared.moves.Moved.{Moved}
 use Rattle.held_bytes.specs.Moves.{handedOut, wanting, later, Opens}
 

@@ -1,5 +1,5 @@
--- The promise of a call on a reader's parts leaves one answer, one set of counts and one content of the held places: two results that
--- meet it are equal. Assumes nothing.
+-- The promise of a call on a reader's parts leaves one answer, one set of counts and one content of the held places:
+-- two results that meet it are equal. Assumes nothing.
 use Prim.Native.Nat.{ℕ}
 use mathlib.Core.Path.{_≡_, ap}
 use mathlib.Core.List.{List}

@@ -1,5 +1,5 @@
--- Bytes that are zero. Those seen together, by `|` of numbers, are zero where what is seen is; and where those are that stand as nine
--- blocks of sixteen side by side, all 133 places are.
+-- Bytes that are zero. Those seen together, by `|` of numbers, are zero where what is seen is; and where those are that
+-- stand as nine blocks of sixteen side by side, all 133 places are.
 -- Assumes nothing.
 use Prim.Native.Nat.{ℕ, _+_, _-_, _≤_, _<_}
 use mathlib.Core.Path.{_≡_, refl, sym, ap, _∙_}

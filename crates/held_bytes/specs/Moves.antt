@@ -45,8 +45,8 @@ abbrev pub later : ℕ → Call → Call
 later t (gives taken k n f kept) = gives (t + taken) k n f kept
 later t (wants taken k kept) = wants (t + taken) k kept
 
--- What is left is that of this call on an open reader at a place, which has skipped some bytes, whatever its flag. (Of what it held only
--- the call speaks.)
+-- What is left is that of this call on an open reader at a place, which has skipped some bytes, whatever its flag. (Of
+-- what it held only the call speaks.)
 abbrev pub Opens : ℕ → ℕ → ℕ → Call → List ℕ → Moved → Type 0
 Opens family at skipped c left m = (closed : ℕ) → fedAt family closed left m ≡ openCall (readerAt family closed 0 [] at skipped) c
 

@@ -6,7 +6,7 @@ use crate::moves::done;
 use crate::moves::handed_out;
 use crate::moves::refused;
 use crate::pieces::advance;
-use crate::size;
+use crate::places_in;
 use rules::HOLDS_TOO_MUCH;
 use rules::IS_CLOSED;
 use rules::NO_FAMILY;
@@ -53,7 +53,7 @@ pub fn feed_places(
     ensures { λ m. ⌜ FeedsPlaces family closed count (now (held .entry)) at skipped (now (offered .entry)) (now (held .exit)) m ⌝ }
 {
     // never: it tells the proof how many places the type has
-    if size(held) != PLACES {
+    if places_in(held) != PLACES {
         return refused(count, at, skipped, HOLDS_TOO_MUCH);
     }
     if !is_family(family) {

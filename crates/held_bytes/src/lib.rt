@@ -21,7 +21,7 @@ ghost use Rattle.held_bytes.specs.Held.{Become};
 
 // How many places there are: a function of its own, because a proof knows no length of an array behind a
 // reference, and has it of the slice that this is lent.
-pub fn size(places: &[u8]) -> usize
+pub fn places_in(places: &[u8]) -> usize
     ensures { λ r. ⌜ r ≡ length (now (places .entry)) ⌝ }
 {
     places.len()

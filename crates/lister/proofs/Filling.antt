@@ -17,8 +17,8 @@ use Rattle.stream_laws.proofs.Heads.{good-head}
 use Rattle.stream_laws.proofs.Families.{facts}
 use Rattle.stream_laws.proofs.Starts.{NotGood, rule-skips, rule-at-good}
 use Rattle.lister.specs.Fills.{Fills}
-use Rattle.lister.specs.Sizes.{sizeAt, Passes}
-use Rattle.lister.proofs.Sizes.{too-short, some-size, no-size}
+use Rattle.lister.specs.GoodLengths.{goodLength, Passes}
+use Rattle.lister.proofs.GoodLengths.{too-short, some-length, no-length}
 use Rattle.search.proofs.Walk.{left, at-end}
 
 -- all starts of a capture
@@ -49,8 +49,8 @@ same-starts h (suc inside) at j k (b ∷ bs) = same-starts h inside (suc at) j k
 same-starts h zero at j k (b ∷ bs) = by (h (b ∷ bs)) (same-starts h zero (suc at) (suc j) (suc k) bs)
   where
     by : (x : Head) → startsOf (rule h zero (suc at) (suc j) bs) ≡ startsOf (rule h zero (suc at) (suc k) bs)
-        → startsOf (byHead x (rule h zero (suc at) (suc j) bs) (rule h zero (suc at) (suc j) bs) (λ n f. record { start = at; skipped = j; size = n; frame = f } ∷ rule h (pred n) (suc at) zero bs))
-        ≡ startsOf (byHead x (rule h zero (suc at) (suc k) bs) (rule h zero (suc at) (suc k) bs) (λ n f. record { start = at; skipped = k; size = n; frame = f } ∷ rule h (pred n) (suc at) zero bs))
+        → startsOf (byHead x (rule h zero (suc at) (suc j) bs) (rule h zero (suc at) (suc j) bs) (λ n f. record { start = at; skipped = j; length = n; frame = f } ∷ rule h (pred n) (suc at) zero bs))
+        ≡ startsOf (byHead x (rule h zero (suc at) (suc k) bs) (rule h zero (suc at) (suc k) bs) (λ n f. record { start = at; skipped = k; length = n; frame = f } ∷ rule h (pred n) (suc at) zero bs))
     by wait e = e
     by bad e = e
     by (good n f) e = refl
@@ -76,22 +76,22 @@ module _ (family : ℕ) (bs out₀ out : List ℕ) (at n : ℕ) (filled : Filled
       let there : at + (to - at) ≡ to = omega (arith, p .on) in
       rw there at
       (over (to - at) (omega (arith, p .on, p .within))
-      (λ j q. no-size family (drop (at + j) bs) (p .none (at + j) (omega arith) (omega (arith, p .on)))))
+      (λ j q. no-length family (drop (at + j) bs) (p .none (at + j) (omega arith) (omega (arith, p .on)))))
 
   -- a good frame here: there is one more start than n, and it is this one
-  module _ (size : ℕ) (e : size ≡ sizeAt family (drop at bs)) (some-bytes : size ≡ 0 → ⊥) where
-    here : (f : Frame) × (head family (drop at bs) ≡ good size f)
-    here = some-size family (drop at bs) size e some-bytes
+  module _ (long : ℕ) (e : long ≡ goodLength family (drop at bs)) (some-bytes : long ≡ 0 → ⊥) where
+    here : (f : Frame) × (head family (drop at bs) ≡ good long f)
+    here = some-length family (drop at bs) long e some-bytes
 
-    pub inside : at + size ≤ length bs
-    inside = omega (arith, good-head family (drop at bs) size (here .0) (here .1) .there, length-drop at bs, filled .within)
+    pub inside : at + long ≤ length bs
+    inside = omega (arith, good-head family (drop at bs) long (here .0) (here .1) .there, length-drop at bs, filled .within)
 
-    split : drop n (all family bs) ≡ at ∷ startsOf (left family bs (at + size))
+    split : drop n (all family bs) ≡ at ∷ startsOf (left family bs (at + long))
     split =
         sym (filled .come)
-        ∙ ap startsOf (rule-at-good (facts family) (drop at bs) 0 size (here .0) at 0 (λ j p. absurd (omega arith)) (here .1))
-        ∙ (λ i. add-zero at i ∷ startsOf (rule (head family) 0 (add-zero at i + size) 0 (drop (zero-add size i) (drop at bs))))
-        ∙ ap (λ (l : List ℕ). at ∷ startsOf (rule (head family) 0 (at + size) 0 l)) (drop-drop size at bs)
+        ∙ ap startsOf (rule-at-good (facts family) (drop at bs) 0 long (here .0) at 0 (λ j p. absurd (omega arith)) (here .1))
+        ∙ (λ i. add-zero at i ∷ startsOf (rule (head family) 0 (add-zero at i + long) 0 (drop (zero-add long i) (drop at bs))))
+        ∙ ap (λ (l : List ℕ). at ∷ startsOf (rule (head family) 0 (at + long) 0 l)) (drop-drop long at bs)
 
     pub one-more : n < length (all family bs)
     one-more = omega (arith, ap length split, length-drop n (all family bs))
@@ -99,10 +99,10 @@ module _ (family : ℕ) (bs out₀ out : List ℕ) (at n : ℕ) (filled : Filled
     is-start : getD (all family bs) n 0 ≡ at
     is-start = ap (λ (k : ℕ). getD (all family bs) k 0) (sym (add-zero n)) ∙ sym (getD-drop n (all family bs) 0 0) ∙ ap (λ (l : List ℕ). getD l 0 0) split
 
-    pub filled-in : Filled family bs out₀ (set out n at) (at + size) (n + 1)
+    pub filled-in : Filled family bs out₀ (set out n at) (at + long) (n + 1)
     filled-in = record {
       within = inside;
-      few = omega (arith, filled .few, good-head family (drop at bs) size (here .0) (here .1) .some);
+      few = omega (arith, filled .few, good-head family (drop at bs) long (here .0) (here .1) .some);
       some = omega (arith, one-more);
       come = sym (ap (drop 1) split) ∙ drop-drop 1 n (all family bs);
       front = λ room.

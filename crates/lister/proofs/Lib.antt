@@ -1,7 +1,8 @@
--- `Sizes` has the length of a good frame at the head, `Packets` that of a command and of a reply by their tests, `Names` how a
--- sentence begins, and `Skips` which starts are passed over together, and `Filling` how the list of starts is filled.
+-- `GoodLengths` has the length of a good frame at the head, `Packets` that of a command and of a reply by their tests,
+-- `Names` how a sentence begins, and `Skips` which starts are passed over together, and `Filling` how the list of
+-- starts is filled.
 pub mod Filling
 pub mod Names
 pub mod Packets
-pub mod Sizes
+pub mod GoodLengths
 pub mod Skips

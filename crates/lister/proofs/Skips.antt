@@ -14,8 +14,8 @@ use Rattle.stream_rules.specs.Heads.{isSpe, markOf, payloadRun, head}
 use Rattle.stream_laws.proofs.Runs.{run-within}
 use Rattle.stream_laws.proofs.Starts.{NotGood, bad-not-good}
 use Rattle.search.proofs.Passing.{mark-is-no-count, behind-no-mark, not-dollar, in-the-run}
-use Rattle.lister.specs.Sizes.{sizeAt, Passes}
-use Rattle.lister.proofs.Sizes.{size-none, no-size}
+use Rattle.lister.specs.GoodLengths.{goodLength, Passes}
+use Rattle.lister.proofs.GoodLengths.{length-none, no-length}
 
 -- The starts from a place of some bytes on, as a walk passes over them.
 pub nothing-passed : (family : ℕ) (s : List ℕ) (at : ℕ) → at ≤ length s → Passes family s at at
@@ -28,31 +28,31 @@ passes family s at k there none = record {
   within = there;
   none = λ j from below.
       let same : at + (j - at) ≡ j = omega arith in
-      size-none family (drop j s) (rw same at (none (j - at) (omega arith)));
+      length-none family (drop j s) (rw same at (none (j - at) (omega arith)));
 }
 
 -- No frame here, and none at the next starts: none at all.
-and-behind : (family : ℕ) (s : List ℕ) (at k : ℕ) → 0 ≡ sizeAt family (drop at s)
+and-behind : (family : ℕ) (s : List ℕ) (at k : ℕ) → 0 ≡ goodLength family (drop at s)
     → ((j : ℕ) → 0 < j → j < k → NotGood (head family (drop j (drop at s)))) → (j : ℕ) → j < k → NotGood (head family (drop (at + j) s))
 and-behind family s at k none behind j p =
     elim (ℕ-discrete j 0) [
-      | yes first ↦ let same : at ≡ at + j = omega (arith, first) in rw (← same) (no-size family (drop at s) none)
+      | yes first ↦ let same : at ≡ at + j = omega (arith, first) in rw (← same) (no-length family (drop at s) none)
       | no later ↦ rw (← drop-drop j at s) (behind j (omega arith) p)
     ]
 
 -- a start with no frame: none here;
-pub over-none : (family : ℕ) (s : List ℕ) (at : ℕ) → at < length s → 0 ≡ sizeAt family (drop at s) → Passes family s at (at + 1)
+pub over-none : (family : ℕ) (s : List ℕ) (at : ℕ) → at < length s → 0 ≡ goodLength family (drop at s) → Passes family s at (at + 1)
 over-none family s at there none = passes family s at 1 (omega arith) (and-behind family s at 1 none (λ j q p. absurd (omega arith)))
 
 -- a mark in a count's place: none here;
 pub over-mark : (family : ℕ) (spe : isSpe family ≡ true) (s : List ℕ) (at : ℕ) → at + 4 ≤ length s → getD s (at + 3) 0 ≡ markOf family → Passes family s at (at + 1)
 over-mark family spe s at there e =
     over-none family s at (omega arith)
-    (size-none family (drop at s) (bad-not-good (mark-is-no-count family spe (drop at s) (omega (arith, length-drop at s)) (getD-drop at s 3 0 ∙ e) .0)))
+    (length-none family (drop at s) (bad-not-good (mark-is-no-count family spe (drop at s) (omega (arith, length-drop at s)) (getD-drop at s 3 0 ∙ e) .0)))
 
 -- none there: neither here, where no frame stands, nor at the next three;
 pub over-four : (family : ℕ) (spe : isSpe family ≡ true) (s : List ℕ) (at : ℕ) → at + 4 ≤ length s → (getD s (at + 3) 0 ≡ markOf family → ⊥)
-    → 0 ≡ sizeAt family (drop at s) → Passes family s at (at + 4)
+    → 0 ≡ goodLength family (drop at s) → Passes family s at (at + 4)
 over-four family spe s at there other none =
     passes family s at 4 there
     (and-behind family s at 4 none
@@ -60,10 +60,10 @@ over-four family spe s at there other none =
 
 -- another byte than `$`: none here;
 pub over-byte : (s : List ℕ) (at : ℕ) → at < length s → (getD s at 0 ≡ code "$" → ⊥) → Passes 2 s at (at + 1)
-over-byte s at there other = over-none 2 s at there (size-none 2 (drop at s) (bad-not-good (not-dollar s at there other .0)))
+over-byte s at there other = over-none 2 s at there (length-none 2 (drop at s) (bad-not-good (not-dollar s at there other .0)))
 
 -- and a `$` with no frame: none here and in the run behind it.
-pub over-run : (s : List ℕ) (at n : ℕ) → at < length s → n ≤ length (payloadRun (drop 1 (drop at s))) → 0 ≡ sizeAt 2 (drop at s) → Passes 2 s at (at + (n + 1))
+pub over-run : (s : List ℕ) (at n : ℕ) → at < length s → n ≤ length (payloadRun (drop 1 (drop at s))) → 0 ≡ goodLength 2 (drop at s) → Passes 2 s at (at + (n + 1))
 over-run s at n there within none =
     passes 2 s at (n + 1)
     (omega (arith, run-within (drop 1 (drop at s)), length-drop 1 (drop at s), length-drop at s))

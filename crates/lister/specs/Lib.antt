@@ -1,3 +1,3 @@
 -- What the steps of the lister give, and how it fills the list.
 pub mod Fills
-pub mod Sizes
+pub mod GoodLengths

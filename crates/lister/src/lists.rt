@@ -1,10 +1,10 @@
 // The lister: the starts of all frames in a capture.
 
-use crate::steps::command_size;
+use crate::steps::command_length;
 use crate::steps::may_be_sentence;
 use crate::steps::next_command;
-use crate::steps::reply_size;
-use crate::steps::sentence_size;
+use crate::steps::reply_length;
+use crate::steps::sentence_length;
 use rules::COMMANDS;
 use rules::NO_FAMILY;
 use rules::NO_ROOM;
@@ -44,14 +44,14 @@ fn fill_commands(capture: &[u8], starts: &mut [u32]) -> usize
     let mut at = 0;
     let mut n = 0;
     while PACKET_LENGTH <= capture.len() - at {
-        let size = command_size(&capture[at..]);
-        if size == 0 {
+        let length = command_length(&capture[at..]);
+        if length == 0 {
             at = next_command(capture, at);
             continue;
         }
         note(starts, n, at);
         n += 1;
-        at += size;
+        at += length;
     }
     n
 }
@@ -69,14 +69,14 @@ fn fill_replies(capture: &[u8], starts: &mut [u32]) -> usize
             at += 1;
             continue;
         }
-        let size = reply_size(&capture[at..]);
-        if size == 0 {
+        let length = reply_length(&capture[at..]);
+        if length == 0 {
             at += 4;
             continue;
         }
         note(starts, n, at);
         n += 1;
-        at += size;
+        at += length;
     }
     n
 }
@@ -98,14 +98,14 @@ fn fill_sentences(capture: &[u8], starts: &mut [u32]) -> usize
             continue;
         }
         let run = payload_bytes(&capture[at + 1..]);
-        let size = sentence_size(&capture[at..], run);
-        if size == 0 {
+        let length = sentence_length(&capture[at..], run);
+        if length == 0 {
             at += run + 1;
             continue;
         }
         note(starts, n, at);
         n += 1;
-        at += size;
+        at += length;
     }
     n
 }

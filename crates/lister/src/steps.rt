@@ -19,11 +19,11 @@ ghost use lib.ListN.{length, drop};
 ghost use Rattle.rules.specs.Answers.{replies, sentences, commands};
 ghost use Rattle.rules.specs.Codes.{packetLength};
 ghost use Rattle.stream_rules.specs.Heads.{payloadRun};
-ghost use Rattle.lister.specs.Sizes.{sizeAt, Passes};
+ghost use Rattle.lister.specs.GoodLengths.{goodLength, Passes};
 
 // How long the good command at the head is; 0 where there is none.
-pub(crate) fn command_size(s: &[u8]) -> usize
-    ensures { λ r. ⌜ r ≡ sizeAt commands (now (s .entry)) ⌝ }
+pub(crate) fn command_length(s: &[u8]) -> usize
+    ensures { λ r. ⌜ r ≡ goodLength commands (now (s .entry)) ⌝ }
 {
     if s.len() < PACKET_LENGTH {
         return 0;
@@ -36,8 +36,8 @@ pub(crate) fn command_size(s: &[u8]) -> usize
 
 // How long the good acknowledgement or report at the head is; 0 where there is none. The count tells
 // which it can be.
-pub(crate) fn reply_size(s: &[u8]) -> usize
-    ensures { λ r. ⌜ r ≡ sizeAt replies (now (s .entry)) ⌝ }
+pub(crate) fn reply_length(s: &[u8]) -> usize
+    ensures { λ r. ⌜ r ≡ goodLength replies (now (s .entry)) ⌝ }
 {
     if s.len() < PACKET_LENGTH {
         return 0;
@@ -68,7 +68,7 @@ pub(crate) fn reply_size(s: &[u8]) -> usize
 // False only where no good sentence starts: too few bytes, or by what stands in its name's place, that begins with an
 // A, and no digit is below 0.
 pub(crate) fn may_be_sentence(s: &[u8]) -> bool
-    ensures { λ r. ⌜ (r ≡ false → 0 ≡ sizeAt sentences (now (s .entry))) ⌝ }
+    ensures { λ r. ⌜ (r ≡ false → 0 ≡ goodLength sentences (now (s .entry))) ⌝ }
 {
     if s.len() < SHORTEST_SENTENCE {
         return false;
@@ -81,9 +81,9 @@ pub(crate) fn may_be_sentence(s: &[u8]) -> bool
 
 // How long the good sentence at the head is, with n payload bytes behind its first byte; 0 where there
 // is none.
-pub(crate) fn sentence_size(s: &[u8], n: usize) -> usize
+pub(crate) fn sentence_length(s: &[u8], n: usize) -> usize
     requires { ⌜ n ≡ min (length (payloadRun (drop 1 (now s)))) 129 ⌝ }
-    ensures { λ r. ⌜ r ≡ sizeAt sentences (now (s .entry)) ⌝ }
+    ensures { λ r. ⌜ r ≡ goodLength sentences (now (s .entry)) ⌝ }
 {
     if LONGEST_PAYLOAD < n {
         return 0;
@@ -119,7 +119,7 @@ fn past_marks(s: &[u8], from: usize) -> usize
 // Behind a start with no command, the next at which one may stand. Where no mark stands in a count's place, none
 // starts in the three places behind the start.
 pub(crate) fn next_command(s: &[u8], from: usize) -> usize
-    requires { ⌜ (from + packetLength ≤ length (now s)) × (0 ≡ sizeAt commands (drop from (now s))) ⌝ }
+    requires { ⌜ (from + packetLength ≤ length (now s)) × (0 ≡ goodLength commands (drop from (now s))) ⌝ }
     ensures { λ r. ⌜ (from < r) × Passes commands (now (s .entry)) from r ⌝ }
 {
     if s[from + 3] != COMMAND_MARK {

@@ -34,19 +34,19 @@ fn print_calls(first: Reader, script: &[u8]) {
     let mut reader = first;
     let mut at = 0;
     while at < script.len() {
-        let size = call_size(script, at);
-        if size == 0 {
+        let length = call_length(script, at);
+        if length == 0 {
             lines::print_text(b"bad script");
             return;
         }
-        reader = make_call(reader, text(script, at, size));
-        at += size;
+        reader = make_call(reader, text(script, at, length));
+        at += length;
     }
     lines::print_text(b"end");
 }
 
 // How many bytes the call at a place has; 0 where there is none, or it is cut short.
-fn call_size(script: &[u8], at: usize) -> usize
+fn call_length(script: &[u8], at: usize) -> usize
     ensures { λ r. ⌜ r ≤ length (now (script .entry)) - at ⌝ }
 {
     let call = text(script, at, 257);
@@ -59,14 +59,14 @@ fn call_size(script: &[u8], at: usize) -> usize
     if call.len() < 2 {
         return 0;
     }
-    let size = call[1] as usize + 2;
+    let length = call[1] as usize + 2;
     if !one_of(b"fo", call[0]) {
         return 0;
     }
-    if call.len() < size {
+    if call.len() < length {
         return 0;
     }
-    size
+    length
 }
 
 // Makes one call: the letter, and for an offer the count byte and the bytes.

@@ -46,7 +46,7 @@ pub(crate) fn forms_of(kind: Kind) -> [u8; VALUE_PLACES]
 }
 
 // How far from zero.
-fn size(z: i64) -> u64
+fn magnitude(z: i64) -> u64
     ensures { λ r. ⌜ r ≡ natAbs z ⌝ }
 {
     if z < 0 {
@@ -61,16 +61,16 @@ fn signed(line: &mut [u8], at: usize, z: i64) -> usize
 {
     if z < 0 {
         let place = text(line, at, b" -");
-        return number(line, place, size(z));
+        return number(line, place, magnitude(z));
     }
-    spaced(line, at, size(z))
+    spaced(line, at, magnitude(z))
 }
 
 // The letter that a value is.
 fn letter_of(v: i64) -> u8
     ensures { λ r. ⌜ r ≡ letterOf v ⌝ }
 {
-    (size(v) % 256) as u8
+    (magnitude(v) % 256) as u8
 }
 
 // A value in the form of its field.

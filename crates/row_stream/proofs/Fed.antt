@@ -1,5 +1,5 @@
--- What a call and the row of its answer say of the reader that is left: where the row was laid, the one that the call gives back, and
--- else the one that it was made on.
+-- What a call and the row of its answer say of the reader that is left: where the row was laid, the one that the call
+-- gives back, and else the one that it was made on.
 -- Assumes nothing.
 use Prim.Native.Nat.{ℕ, _≤_}
 use mathlib.Core.Path.{_≡_, refl, sym, ap, subst, _∙_}

@@ -1,5 +1,5 @@
--- A call on few bytes, which stand with the held ones at the front of the places: what a search finds there, and the row that it has
--- laid, are those of the call; and what is kept of them is what the call keeps.
+-- A call on few bytes, which stand with the held ones at the front of the places: what a search finds there, and the
+-- row that it has laid, are those of the call; and what is kept of them is what the call keeps.
 -- Assumes nothing.
 use Prim.Native.Nat.{ℕ, max, _+_, _-_, _^_, _≤_, _<_}
 use mathlib.Core.Path.{_≡_, refl, sym, ap, subst, _∙_}

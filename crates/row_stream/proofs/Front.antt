@@ -1,5 +1,5 @@
--- A call on a reader that holds nothing, with a good frame at the front of what is offered: it takes the frame's bytes, hands it out and
--- keeps nothing.
+-- A call on a reader that holds nothing, with a good frame at the front of what is offered: it takes the frame's bytes,
+-- hands it out and keeps nothing.
 -- Assumes nothing.
 use Prim.Native.Nat.{ℕ, _+_, _^_, _≤_, _<_}
 use mathlib.Core.Path.{_≡_, refl, sym, ap, subst, _∙_}

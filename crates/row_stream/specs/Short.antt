@@ -31,8 +31,8 @@ pub record IsFew (family count others : ℕ) : Type 0 where
   pub low : count < longest family
   pub behind : count + others ≤ placeCount
 
--- A frame of n bytes at the front of what is offered to a reader that holds nothing has been handed out, and nothing is kept. Where n
--- is 0, nothing is changed.
+-- A frame of n bytes at the front of what is offered to a reader that holds nothing has been handed out, and nothing is
+-- kept. Where n is 0, nothing is changed.
 pub record FrontRow (family at skipped : ℕ) (offered held : List ℕ) (numbers : List ℤ) (n : ℕ) (places : List ℕ) (left : List ℤ) : Type 0 where
   pub none : n ≡ 0 → (places ≡ held) × (left ≡ numbers)
   pub handed : (n ≡ 0 → ⊥) → FeedsRow (readerAt family 0 0 held at skipped) offered numbers 0 (readerAt family 0 0 places (wrap (at + n)) 0) left

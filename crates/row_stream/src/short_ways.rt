@@ -18,7 +18,7 @@ use crate::short_ways::few::is_few;
 use crate::short_ways::front::front_frame;
 use crate::short_ways::going::feed_on;
 use crate::short_ways::going::goes_on;
-use held_bytes::size;
+use held_bytes::places_in;
 use rows::LONGEST_ROW;
 use starts::advanced;
 use stream_rules::PLACES;
@@ -47,7 +47,7 @@ pub(crate) fn feed_short(
 ) -> Counts
     ensures { λ c. ⌜ FeedsLent family closed count at skipped held offered numbers c ⌝ }
 {
-    if !is_plain(closed, size(held), numbers.len()) {
+    if !is_plain(closed, places_in(held), numbers.len()) {
         let any = feed_any(family, closed, count, at, skipped, held, offered, numbers);
         return left_so(any.number, any.count, any.at, any.skipped);
     }

@@ -1,4 +1,5 @@
--- How long a row is: no frame's row is longer than that of a status report, 26 numbers; so where that many are lent, every row has room.
+-- How long a row is: no frame's row is longer than that of a status report, 26 numbers; so where that many are lent,
+-- every row has room.
 -- Assumes nothing.
 use Prim.Native.Nat.{ℕ, _≤_}
 use mathlib.Core.Path.{_≡_}
@@ -12,9 +13,9 @@ use Rattle.rules.specs.declared.Frame.{Frame}
 use Rattle.records.proofs.Places.{few-values}
 use Rattle.rows.specs.Rows.{longestRow, kindRow, codeOf, heading, row, rowNumber}
 
-pub row-fits : (taken start skipped size : ℕ) (f : Frame) → length (row taken start skipped size f) ≤ longestRow
-row-fits taken start skipped size f =
-    omega (arith, length-append (heading (kindRow (kindOf f)) (codeOf (kindOf f)) taken start skipped size) (values f), few-values f)
+pub row-fits : (taken start skipped n : ℕ) (f : Frame) → length (row taken start skipped n f) ≤ longestRow
+row-fits taken start skipped n f =
+    omega (arith, length-append (heading (kindRow (kindOf f)) (codeOf (kindOf f)) taken start skipped n) (values f), few-values f)
 
 -- with so many numbers lent, only a refusal has another number than 0
 pub room : (r numbers : List ℤ) → length r ≤ 26 → 26 ≤ length numbers → rowNumber r numbers ≡ 0

@@ -1,6 +1,6 @@
 -- A frame, and what a call answers, as a row of numbers in lent memory: what a C program is handed. A row is its kind, its
 -- code, the bytes taken, the frame's start, the bytes skipped and its length, and behind these six the frame's values.
-use Prim.Native.Nat.{ℕ, _+_, _%_, _^_}
+use Prim.Native.Nat.{ℕ, _+_, _≤_, _%_, _^_}
 use mathlib.Core.Path.{_≡_}
 use mathlib.Core.Bool.{cond}
 use mathlib.Core.List.{List, [], _∷_, _++_}
@@ -63,10 +63,14 @@ counted n = pos (n % 2 ^ 63)
 
 -- the six numbers in front of the values
 abbrev pub heading : ℕ → ℕ → ℕ → ℕ → ℕ → ℕ → List ℤ
-heading kind code taken start skipped size = pos kind ∷ pos code ∷ counted taken ∷ pos start ∷ pos skipped ∷ counted size ∷ []
+heading kind code taken start skipped length = pos kind ∷ pos code ∷ counted taken ∷ pos start ∷ pos skipped ∷ counted length ∷ []
+
+-- that there is room for them
+abbrev pub HeadingFits : List ℤ → Type 0
+HeadingFits numbers = headingLength ≤ length numbers
 
 abbrev pub row : ℕ → ℕ → ℕ → ℕ → Frame → List ℤ
-row taken start skipped size f = heading (kindRow (kindOf f)) (codeOf (kindOf f)) taken start skipped size ++ values f
+row taken start skipped length f = heading (kindRow (kindOf f)) (codeOf (kindOf f)) taken start skipped length ++ values f
 
 -- without a frame
 abbrev pub rowWithout : ℕ → ℕ → List ℤ
@@ -80,12 +84,12 @@ rowFed (Refused n) = []
 
 -- of what the reader of one frame answers, with the bytes taken, the start, the bytes skipped and the length of such a frame
 abbrev pub rowAt : ℕ → ℕ → ℕ → ℕ → Reading → List ℤ
-rowAt taken start skipped size (Good f) = row taken start skipped size f
-rowAt taken start skipped size (NotGood n) = []
+rowAt taken start skipped length (Good f) = row taken start skipped length f
+rowAt taken start skipped length (NotGood n) = []
 
 -- of a frame that is read alone, its length is that of the bytes
 abbrev pub rowRead : ℕ → Reading → List ℤ
-rowRead size reading = rowAt 0 0 0 size reading
+rowRead length reading = rowAt 0 0 0 length reading
 
 -- the number for no, and 0 for yes
 abbrev pub refusalOf : Says → ℕ
@@ -123,7 +127,8 @@ pub record Lays (answer : Says) (r numbers : List ℤ) (result : ℕ) (after : L
   pub answers : result ≡ laidNumber answer r numbers
   pub content : after ≡ laidContent r numbers result
 
--- Numbers that are lent to a function: as they are passed, and as they are left. And the same of a row and of an answer in lent numbers.
+-- Numbers that are lent to a function: as they are passed, and as they are left. And the same of a row and of an answer
+-- in lent numbers.
 abbrev pub LentNumbers : Type 0
 LentNumbers = Both (RefT (List ℤ)) (RefT (List ℤ))
 

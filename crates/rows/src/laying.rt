@@ -13,7 +13,7 @@ ghost use lib.ListN.{length};
 ghost use Prim.Native.Nat.{_+_, _≤_};
 ghost use Rattle.rules.specs.Answers.{said};
 ghost use Rattle.stream_rules.specs.Streams.{saidToFeed};
-ghost use Rattle.rows.specs.Rows.{headingLength, kindRow, codeOf, counted, heading, row, rowFed, rowAt, laidAt, RowIn, AnswerIn};
+ghost use Rattle.rows.specs.Rows.{headingLength, HeadingFits, kindRow, codeOf, counted, heading, row, rowFed, rowAt, laidAt, RowIn, AnswerIn};
 
 // The first number of a row: what kind of frame, or that more is wanted, or that all is done.
 pub const ACK_ROW: u32 = 1;
@@ -99,15 +99,15 @@ fn put_heading(
     taken: usize,
     start: u32,
     skipped: u32,
-    size: usize,
+    length: usize,
 )
-    requires { ⌜ 6 ≤ length (now numbers) ⌝ }
-    ensures { λ _. ⌜ now (numbers .exit) ≡ laidAt 0 (heading kind code taken start skipped size) (now (numbers .entry)) ⌝ }
+    requires { ⌜ HeadingFits (now numbers) ⌝ }
+    ensures { λ _. ⌜ now (numbers .exit) ≡ laidAt 0 (heading kind code taken start skipped length) (now (numbers .entry)) ⌝ }
 {
     let what = [kind, code, 0, start, skipped, 0];
     put_numbers(numbers, 0, &what);
     numbers[2] = count(taken);
-    numbers[5] = count(size);
+    numbers[5] = count(length);
 }
 
 // The row of a frame. Refusal 4 where it has no room.
@@ -116,10 +116,10 @@ fn lay_frame(
     taken: usize,
     start: u32,
     skipped: u32,
-    size: usize,
+    length: usize,
     numbers: &mut [i64],
 ) -> u32
-    ensures { λ r. ⌜ RowIn numbers r (row taken start skipped size frame) ⌝ }
+    ensures { λ r. ⌜ RowIn numbers r (row taken start skipped length frame) ⌝ }
 {
     let told = fields_of(frame);
     let kind = told.kind;
@@ -135,7 +135,7 @@ fn lay_frame(
         taken,
         start,
         skipped,
-        size,
+        length,
     );
     put_values(numbers, &values[..count]);
     0
@@ -148,15 +148,15 @@ pub fn lay_heading(
     taken: usize,
     start: u32,
     skipped: u32,
-    size: usize,
+    length: usize,
     numbers: &mut [i64],
 ) -> u32
-    ensures { λ r. ⌜ RowIn numbers r (heading kind code taken start skipped size) ⌝ }
+    ensures { λ r. ⌜ RowIn numbers r (heading kind code taken start skipped length) ⌝ }
 {
     if numbers.len() < HEADING_LENGTH {
         return HAS_NO_ROOM;
     }
-    put_heading(numbers, kind, code, taken, start, skipped, size);
+    put_heading(numbers, kind, code, taken, start, skipped, length);
     0
 }
 
@@ -167,11 +167,11 @@ pub fn lay_values(
     taken: usize,
     start: u32,
     skipped: u32,
-    size: usize,
+    length: usize,
     values: &[u32],
     numbers: &mut [i64],
 ) -> u32
-    ensures { λ r. ⌜ RowIn numbers r (heading kind code taken start skipped size ++ map pos (now (values .entry))) ⌝ }
+    ensures { λ r. ⌜ RowIn numbers r (heading kind code taken start skipped length ++ map pos (now (values .entry))) ⌝ }
 {
     if numbers.len() < HEADING_LENGTH {
         return HAS_NO_ROOM;
@@ -179,7 +179,7 @@ pub fn lay_values(
     if numbers.len() - HEADING_LENGTH < values.len() {
         return HAS_NO_ROOM;
     }
-    put_heading(numbers, kind, code, taken, start, skipped, size);
+    put_heading(numbers, kind, code, taken, start, skipped, length);
     put_numbers(numbers, HEADING_LENGTH, values);
     0
 }
@@ -206,19 +206,19 @@ pub fn lay_answer(answer: Answer, numbers: &mut [i64]) -> u32
     }
 }
 
-// What a reader of one frame answered, as the row of a frame of that size that was handed out so.
+// What a reader of one frame answered, as the row of a frame of that length that was handed out so.
 pub fn lay_reading(
     reading: Reading,
     taken: usize,
     start: u32,
     skipped: u32,
-    size: usize,
+    length: usize,
     numbers: &mut [i64],
 ) -> u32
-    ensures { λ r. ⌜ AnswerIn numbers r (said reading) (rowAt taken start skipped size reading) ⌝ }
+    ensures { λ r. ⌜ AnswerIn numbers r (said reading) (rowAt taken start skipped length reading) ⌝ }
 {
     match reading {
-        Reading::Good(frame) => lay_frame(frame, taken, start, skipped, size, numbers),
+        Reading::Good(frame) => lay_frame(frame, taken, start, skipped, length, numbers),
         Reading::Refused(n) => n as u32,
     }
 }

@@ -14,6 +14,7 @@ use rules::SENTENCES;
 use spe::is_ack;
 use spe::is_command;
 use spe::read_numbers;
+ghost use Rattle.rules.specs.Answers.{replies, commands};
 ghost use Rattle.rows.specs.ReadRows.{ReadIn};
 
 // The refusals, as a C program has them.
@@ -23,9 +24,9 @@ const IS_NOT_GOOD: u32 = NOT_GOOD as u32;
 
 // An acknowledgement or a report, or refusal 8.
 fn reply_row(bytes: &[u8], taken: usize, start: u32, skipped: u32, numbers: &mut [i64]) -> u32
-    ensures { λ r. ⌜ ReadIn numbers r 1 (now (bytes .entry)) taken start skipped ⌝ }
+    ensures { λ r. ⌜ ReadIn numbers r replies (now (bytes .entry)) taken start skipped ⌝ }
 {
-    let size = bytes.len();
+    let length = bytes.len();
     if is_ack(bytes) {
         return lay_heading(
             ACK_ROW,
@@ -33,7 +34,7 @@ fn reply_row(bytes: &[u8], taken: usize, start: u32, skipped: u32, numbers: &mut
             taken,
             start,
             skipped,
-            size,
+            length,
             numbers,
         );
     }
@@ -42,14 +43,23 @@ fn reply_row(bytes: &[u8], taken: usize, start: u32, skipped: u32, numbers: &mut
         return IS_NOT_GOOD;
     }
     let values = report.numbers;
-    lay_values(STATUS_ROW, 0, taken, start, skipped, size, &values, numbers)
+    lay_values(
+        STATUS_ROW,
+        0,
+        taken,
+        start,
+        skipped,
+        length,
+        &values,
+        numbers,
+    )
 }
 
 // A command, or refusal 8.
 fn command_row(bytes: &[u8], taken: usize, start: u32, skipped: u32, numbers: &mut [i64]) -> u32
-    ensures { λ r. ⌜ ReadIn numbers r 3 (now (bytes .entry)) taken start skipped ⌝ }
+    ensures { λ r. ⌜ ReadIn numbers r commands (now (bytes .entry)) taken start skipped ⌝ }
 {
-    let size = bytes.len();
+    let length = bytes.len();
     if is_command(bytes) {
         return lay_heading(
             COMMAND_ROW,
@@ -57,7 +67,7 @@ fn command_row(bytes: &[u8], taken: usize, start: u32, skipped: u32, numbers: &m
             taken,
             start,
             skipped,
-            size,
+            length,
             numbers,
         );
     }
@@ -76,10 +86,10 @@ pub fn read_row(
 ) -> u32
     ensures { λ r. ⌜ ReadIn numbers r family (now (bytes .entry)) taken start skipped ⌝ }
 {
-    let size = bytes.len();
+    let length = bytes.len();
     match family {
         REPLIES => reply_row(bytes, taken, start, skipped, numbers),
-        SENTENCES => lay_reading(read_sentence(bytes), taken, start, skipped, size, numbers),
+        SENTENCES => lay_reading(read_sentence(bytes), taken, start, skipped, length, numbers),
         COMMANDS => command_row(bytes, taken, start, skipped, numbers),
         _ => IS_NO_FAMILY,
     }

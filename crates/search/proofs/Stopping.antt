@@ -133,9 +133,9 @@ module _ (family : ℕ) (bs : List ℕ) where
   refused-whole at n h e = (h .0 ∙ e, h .1)
 
   -- the stops of a walk: an undecided start, the end, and bytes to read
-  stops : (from far at on size : ℕ) → Walks family bs from far at on → AtStop family bs (record { at = at; length = size; reach = on })
-      → Stops family bs from far (record { at = at; length = size; reach = on })
-  stops from far at on size w f = record { walks = w; found = f }
+  stops : (from far at on long : ℕ) → Walks family bs from far at on → AtStop family bs (record { at = at; length = long; reach = on })
+      → Stops family bs from far (record { at = at; length = long; reach = on })
+  stops from far at on long w f = record { walks = w; found = f }
 
   pub stops-waiting : (from far at on : ℕ) → Walks family bs from far at on → head family (drop at bs) ≡ wait → Stops family bs from far (record { at = at; length = 0; reach = on })
   stops-waiting from far at on w e = stops from far at on 0 w (record { waits = λ none there. e; whole = λ some. absurd (some refl) })

@@ -24,13 +24,13 @@ abbrev pub left : ℕ → List ℕ → ℕ → List Found
 left family bs at = rule (head family) 0 at 0 (drop at bs)
 
 -- The next frame stands behind some skipped bytes, is there as a whole, and is the first that is left.
-pub record Next (family : ℕ) (bs : List ℕ) (at start size : ℕ) (f : Frame) : Type 0 where
+pub record Next (family : ℕ) (bs : List ℕ) (at start n : ℕ) (f : Frame) : Type 0 where
   pub skipped : ℕ
   pub place : start ≡ at + skipped
-  pub some : 0 < size
-  pub long : shortestFrame ≤ size
-  pub there : start + size ≤ length bs
-  pub lists : left family bs at ≡ found start skipped size f ∷ left family bs (start + size)
+  pub some : 0 < n
+  pub long : shortestFrame ≤ n
+  pub there : start + n ≤ length bs
+  pub lists : left family bs at ≡ found start skipped n f ∷ left family bs (start + n)
 
 module _ (family : ℕ) (bs : List ℕ) (at : ℕ) where
   from-look : (k n : ℕ) (f : Frame) (behind : List ℕ) → look (atClose (head family)) (drop at bs) ≡ ready k n f behind → Next family bs at (at + k) n f
@@ -51,18 +51,18 @@ module _ (family : ℕ) (bs : List ℕ) (at : ℕ) where
             ∙ ap (λ (m : ℕ). found (at + k) k n f ∷ rule (head family) 0 m 0 (drop m bs)) (sym (add-assoc at k n));
       }
 
-  pub next : (start size : ℕ) (f : Frame) → firstFrom family bs at ≡ At start size f → Next family bs at start size f
+  pub next : (start long : ℕ) (f : Frame) → firstFrom family bs at ≡ At start long f → Next family bs at start long f
   unfolding firstFrom
-  next start size f e = case (look (atClose (head family)) (drop at bs)) refl e
+  next start long f e = case (look (atClose (head family)) (drop at bs)) refl e
     where
       case : (l : Look) → look (atClose (head family)) (drop at bs) ≡ l
-          → byLook l (λ k n g behind. At (at + k) n g) (λ k rest. Nothing) ≡ At start size f → Next family bs at start size f
+          → byLook l (λ k n g behind. At (at + k) n g) (λ k rest. Nothing) ≡ At start long f → Next family bs at start long f
       case (waiting k rest) is p = let z : _≡_ {A = ℕ} 0 1 = cc in absurd (omega arith)
       case (ready k n g behind) is p =
           let same-start : at + k ≡ start = cc in
-          let same-size : n ≡ size = cc in
+          let same-length : n ≡ long = cc in
           let same-frame : g ≡ f = cc in
-          subst₃ (Next family bs at) same-start same-size same-frame (from-look k n g behind is)
+          subst₃ (Next family bs at) same-start same-length same-frame (from-look k n g behind is)
 
   -- Where there is none, nothing is left.
   pub no-next : firstFrom family bs at ≡ Nothing → left family bs at ≡ []
@@ -83,9 +83,9 @@ module _ (family : ℕ) (bs : List ℕ) where
   step : (fuel at : ℕ) → ((next-at : ℕ) → length bs < next-at + fuel → shortestFrame * length (left family bs next-at) ≤ length bs - next-at)
       → length bs < at + suc fuel → (x : First) → firstFrom family bs at ≡ x → shortestFrame * length (left family bs at) ≤ length bs - at
   step fuel at more h Nothing e = rw (no-next family bs at e) (omega arith)
-  step fuel at more h (At start size f) e =
-      let n : Next family bs at start size f = next family bs at start size f e in
-      let rest : shortestFrame * length (left family bs (start + size)) ≤ length bs - (start + size) = more (start + size) (omega (arith, n .place, n .some)) in
+  step fuel at more h (At start long f) e =
+      let n : Next family bs at start long f = next family bs at start long f e in
+      let rest : shortestFrame * length (left family bs (start + long)) ≤ length bs - (start + long) = more (start + long) (omega (arith, n .place, n .some)) in
       omega (arith, ap length (n .lists), rest, n .long, n .there, n .place)
 
   from-there : (fuel at : ℕ) → length bs < at + fuel → shortestFrame * length (left family bs at) ≤ length bs - at

@@ -1,2 +1,3 @@
--- What a walk along starts finds, and the row of it.
+-- What is seen of a start before a frame is read there, and what a walk along starts finds.
+pub mod Seen
 pub mod Sought

@@ -1,19 +1,20 @@
 // Walks the starts of some bytes: to the first that is not bad, or to the first good frame. Starts that a byte
 // further on rules out are passed together; any other is examined once, and a frame is read only where
 // nothing rules it out.
+mod heads;
 
+use crate::heads::Seen;
+use crate::heads::examine_packet;
+use crate::heads::examine_sentence;
 use frames::read_frame;
 use rules::COMMANDS;
 use rules::Frame;
 use rules::REPLIES;
 use rules::REPORT_LENGTH;
 use rules::Reading;
-use rules::SENTENCES;
 use spe::ends_report;
 use spe::is_ack;
 use spe::is_command;
-use starts::Seen;
-use starts::examine;
 use starts::is_spe;
 use starts::mark_of;
 use texts::further;
@@ -138,7 +139,7 @@ fn packet_stop(family: u8, s: &[u8], from: usize, far: usize) -> Stop
             at += 1; // three marks may begin at the next byte
             continue;
         }
-        match examine(family, &s[at..]) {
+        match examine_packet(family, &s[at..]) {
             Seen::Whole(length) => {
                 if !ruled_out(family, &s[at..at + length]) {
                     return Stop { at, length, reach };
@@ -175,7 +176,7 @@ fn sentence_stop(s: &[u8], from: usize, far: usize) -> Stop
             at += 1;
             continue;
         }
-        match examine(SENTENCES, &s[at..]) {
+        match examine_sentence(&s[at..]) {
             Seen::Whole(length) => return Stop {
                 at,
                 length,

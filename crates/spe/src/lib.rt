@@ -26,7 +26,7 @@ ghost use Prim.Native.Nat.{_+_, _≤_};
 ghost use lib.ListN.{length};
 ghost use Rattle.rules.specs.Bytes.{part};
 ghost use Rattle.rules.specs.Status.{dataLength, readable, statusOf};
-ghost use Rattle.rules.specs.Answers.{Reads, statusNumbers};
+ghost use Rattle.rules.specs.Answers.{replies, commands, Reads, statusNumbers};
 ghost use Rattle.spe.specs.Report.{weighed, numbersIn, reportIn};
 
 // Whether some bytes are a status report, and the numbers of its fields.
@@ -148,7 +148,7 @@ fn read_report(s: &[u8]) -> Reading
 
 // A frame of family 1, from the amplifier: an acknowledgement, or a report; or refusal 8.
 pub fn read_reply(s: &[u8]) -> Reading
-    ensures { λ r. ⌜ Reads 1 (now (s .entry)) r ⌝ }
+    ensures { λ r. ⌜ Reads replies (now (s .entry)) r ⌝ }
 {
     if is_ack(s) {
         return Reading::Good(Frame::Ack(s[4]));
@@ -158,7 +158,7 @@ pub fn read_reply(s: &[u8]) -> Reading
 
 // A frame of family 3, to the amplifier: a command, or refusal 8.
 pub fn read_command(s: &[u8]) -> Reading
-    ensures { λ r. ⌜ Reads 3 (now (s .entry)) r ⌝ }
+    ensures { λ r. ⌜ Reads commands (now (s .entry)) r ⌝ }
 {
     if is_command(s) {
         return Reading::Good(Frame::Command(s[4]));

@@ -1,14 +1,11 @@
-// Starts: what one is known by, which is the number of its family, its mark, and what its first bytes tell before a frame
-// is read; and stamps, the places of starts in a stream.
+// Starts: what one is known by, which is the number of its family, its mark, how many bytes a count needs, and a payload's
+// bytes; and stamps, the places of starts in a stream.
 mod families;
-mod heads;
 mod marks;
 mod stamps;
 
 pub use families::is_family;
 pub use families::is_spe;
-pub use heads::Seen;
-pub use heads::examine;
 pub use marks::bytes_needed;
 pub use marks::is_payload;
 pub use marks::longest_frame;

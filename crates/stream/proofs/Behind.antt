@@ -1,6 +1,7 @@
--- A reader behind a `&mut`, in a walk: the borrow is opened, with the reader's machine value written out and its relation in hand, and closed at any reader whose relation is in hand. A reader owns only facts, so
--- nothing of the old reader has to be kept, and of the new one the relation is enough.
--- The steps take the proof kit's rules (`Given`), as the logic's own steps do.
+-- A reader behind a `&mut`, in a walk: the borrow is opened, with the reader's machine value written out and its
+-- relation in hand, and closed at any reader whose relation is in hand. A reader owns only facts, so nothing of the old
+-- reader has to be kept, and of the new one the relation is enough. The steps take the proof kit's rules (`Given`), as
+-- the logic's own steps do.
 -- Assumes nothing.
 use mathlib.Core.Path.{subst}
 use Prim.Native.Nat.{ℕ}
@@ -38,7 +39,8 @@ module _ {M : Type 1} (𝓤 : URA M) (H : Heap 𝓤) (A : Atoms 𝓤) (W : Given
   reader-typed r p = LL.lawful R.the-type R′.the-laws 𝓤 H A W .typed r (vals r) p .0
 
 module _ {M : Type 1} {𝓤 : URA M} {H : Heap 𝓤} {A : Atoms 𝓤} {K : Type 0} {W : Given 𝓤 H A} {Γ : List (Item 𝓤)} {G : Goal 𝓤 H} where
-  -- the borrow is opened: the reader's cell, at its machine value; what it owns; the open borrow; what observes the value; and what holds it
+  -- the borrow is opened: the reader's cell, at its machine value; what it owns; the open borrow; what observes the
+  -- value; and what holds it
   pub opens-reader : K → Soaks G → {κ : Lft} {q : Share} (h : Reader) {γ : GName} (b o : ℕ)
       → (Is R.the-row h (vals h) → Seq K W (‵ (cellAt fullShare (R.the-row .mir) (vals h) b o) ∷ ‵ (R.the-row .own h (vals h)) ∷ ‵ (fobor κ q (Body (mem R.the-row) b o γ)) ∷ ‵ (fobs γ (R.the-row .coded .code h)) ∷ ‵ (fauth γ (R.the-row .coded .code h)) ∷ Γ) G)
       → Seq K W (‵ (fobs γ (R.the-row .coded .code h)) ∷ ‵ (fbor κ (Body (mem R.the-row) b o γ)) ∷ ‵ (flft κ q) ∷ Γ) G

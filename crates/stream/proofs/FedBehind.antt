@@ -1,5 +1,7 @@
--- `stream::feed` called in a walk, on a reader that was copied out of a `&mut` and on lent bytes: what it is passed, how that comes from what the reader and the bytes own, and what it says.
--- The slice of offered bytes is Copy: what it owns is had twice, one copy goes to the callee beside its lifetime's token, which comes back, and one is kept for the exit.
+-- `stream::feed` called in a walk, on a reader that was copied out of a `&mut` and on lent bytes: what it is passed,
+-- how that comes from what the reader and the bytes own, and what it says. The slice of offered bytes is Copy: what it
+-- owns is had twice, one copy goes to the callee beside its lifetime's token, which comes back, and one is kept for the
+-- exit.
 -- Assumes nothing.
 use mathlib.Core.List.{[], _∷_, List}
 use Prim.Native.Nat.{ℕ}

@@ -1,9 +1,14 @@
--- One field of a struct is lent by `&mut` for one call, and taken back once the call has returned. It says nothing of one struct or of one function: T is any declared struct, and lies in a cell at its MIR type, a local's or one behind a reference whose borrow is open. The field's type is any that owns only facts.
---     typed, untyped   a cell behind a reference stands at the raw form of its type. It is taken to the type itself, at which its fields are read and written (`look-in`, `store-in`), and back
---     Without          what is left of the struct's cell while field k is lent: the field's cell, with any value u, gives the struct's cell with u in its place
---     lends-field      field k of the struct's cell, at x, is given up for a lifetime that is made here: its token, a `&mut` to the field at x, the lender's part, and what is left of the struct's cell
---     takes-field      the token, the lender's part, what says that y is the reference's last value, and what was left of the struct's cell give the struct's cell back: its field k holds the machine value of y. The lifetime is ended here
--- Each is a step of a walk, to be written between two statements. Assumes `Given`.
+-- One field of a struct is lent by `&mut` for one call, and taken back once the call has returned. It says nothing of
+-- one struct or of one function: T is any declared struct, and lies in a cell at its MIR type, a local's or one behind
+-- a reference whose borrow is open. The field's type is any that owns only facts.     typed, untyped   a cell behind a
+-- reference stands at the raw form of its type. It is taken to the type itself, at which its fields are read and
+-- written (`look-in`, `store-in`), and back     Without          what is left of the struct's cell while field k is
+-- lent: the field's cell, with any value u, gives the struct's cell with u in its place     lends-field      field k of
+-- the struct's cell, at x, is given up for a lifetime that is made here: its token, a `&mut` to the field at x, the
+-- lender's part, and what is left of the struct's cell     takes-field      the token, the lender's part, what says
+-- that y is the reference's last value, and what was left of the struct's cell give the struct's cell back: its field k
+-- holds the machine value of y. The lifetime is ended here Each is a step of a walk, to be written between two
+-- statements. Assumes `Given`.
 use mathlib.Core.Path.{_≡_, refl, subst}
 use Prim.Native.Nat.{ℕ, zero, _+_}
 use mathlib.Core.Option.{some as found}

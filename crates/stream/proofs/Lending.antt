@@ -1,8 +1,10 @@
--- A local that holds a struct of plain data is lent by `&mut` for one call, and taken back once the call has returned. It says nothing of one struct or of one function: T is any declared struct whose fields own only facts.
---     cell-in          the local's cell holds v, which is h's machine value  ⊢  h lies there
---     lends-local      the local's cell, at h, is given up for a lifetime that is made here: its token, a `&mut` to the cell at h, and the lender's part
---     takes-back       the token, the lender's part and what says that y is the reference's last value give the cell back: it holds a machine value of y. The lifetime is ended here
--- Both are steps of a walk, to be written between two statements. Assumes `Given`.
+-- A local that holds a struct of plain data is lent by `&mut` for one call, and taken back once the call has returned.
+-- It says nothing of one struct or of one function: T is any declared struct whose fields own only facts.     cell-in
+-- the local's cell holds v, which is h's machine value  ⊢  h lies there     lends-local      the local's cell, at h, is
+-- given up for a lifetime that is made here: its token, a `&mut` to the cell at h, and the lender's part     takes-back
+-- the token, the lender's part and what says that y is the reference's last value give the cell back: it holds a
+-- machine value of y. The lifetime is ended here Both are steps of a walk, to be written between two statements.
+-- Assumes `Given`.
 use mathlib.Core.Path.{refl, subst}
 use Prim.Native.Nat.{ℕ}
 use mathlib.Core.List.{List, [], _∷_}

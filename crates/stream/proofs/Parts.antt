@@ -1,9 +1,9 @@
--- A reader is the record of its parts, and so is its relation to its machine value: where the reader's holds, each part's does at the part's own machine value, and where each part's holds, the reader's does.
---     Parts r          each part's relation
---     parts, of-parts      each part's from the reader's, and the reader's from each part's
---     places           how many held places there are
---     low r            the machine values of the parts
---     held, held-val, held-tells, held-plain       the held places as a field (`Fields`): their type, their machine value, that they have no other, and that they own only facts
+-- A reader is the record of its parts, and so is its relation to its machine value: where the reader's holds, each
+-- part's does at the part's own machine value, and where each part's holds, the reader's does.     Parts r
+-- each part's relation     parts, of-parts      each part's from the reader's, and the reader's from each part's
+-- places           how many held places there are     low r            the machine values of the parts     held,
+-- held-val, held-tells, held-plain       the held places as a field (`Fields`): their type, their machine value, that
+-- they have no other, and that they own only facts
 -- Assumes nothing.
 use mathlib.Core.Path.{_≡_, sym, subst}
 use Prim.Native.Nat.{ℕ}

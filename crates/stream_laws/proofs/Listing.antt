@@ -31,7 +31,7 @@ use Rattle.stream_laws.proofs.Sessions.{demand3}
 -- the bytes of the first frame of a list, or none; and its place, in bytes that begin at a place
 abbrev pub firstOf : List ℕ → List Found → List ℕ
 firstOf bs [] = []
-firstOf bs (f ∷ fs) = part (f .start) (f .size) bs
+firstOf bs (f ∷ fs) = part (f .start) (f .length) bs
 
 abbrev pub firstPlaceOf : ℕ → List Found → ℕ
 firstPlaceOf from [] = 0
@@ -51,7 +51,7 @@ each-also P Q also (f ∷ fs) (p, e) = (also f p, each-also P Q also fs e)
 record Stands (h : List ℕ → Head) (at skipped : ℕ) (bs : List ℕ) (f : Found) : Type 0 where
   place : ℕ
   starts : f .start ≡ at + place
-  here : h (drop place bs) ≡ good (f .size) (f .frame)
+  here : h (drop place bs) ≡ good (f .length) (f .frame)
   skips : f .skipped ≤ skipped + place
 
 stands-next : (h : List ℕ → Head) (at skipped skipped′ b : ℕ) (bs : List ℕ) → skipped′ ≤ suc skipped
@@ -103,22 +103,22 @@ rule-stands h zero at skipped (b ∷ bs) =
     refl
 
 -- Every frame of the rule is a good frame, read from its own bytes alone.
-pub frames-read : (family : ℕ) (bs : List ℕ) → Each (λ f. readOne family (part (f .start) (f .size) bs) ≡ Good (f .frame)) (frames family bs)
+pub frames-read : (family : ℕ) (bs : List ℕ) → Each (λ f. readOne family (part (f .start) (f .length) bs) ≡ Good (f .frame)) (frames family bs)
 frames-read family bs =
     each-also
     (Stands (head family) 0 0 bs)
-    (λ f. readOne family (part (f .start) (f .size) bs) ≡ Good (f .frame))
+    (λ f. readOne family (part (f .start) (f .length) bs) ≡ Good (f .frame))
     (λ f s.
-    ap (λ (i : ℕ). readOne family (part i (f .size) bs)) (s .starts ∙ zero-add (s .place))
-    ∙ head-reads family (drop (s .place) bs) (f .size) (f .frame) (s .here))
+    ap (λ (i : ℕ). readOne family (part i (f .length) bs)) (s .starts ∙ zero-add (s .place))
+    ∙ head-reads family (drop (s .place) bs) (f .length) (f .frame) (s .here))
     (frames family bs)
     (rule-stands (head family) 0 0 0 bs)
 
 -- It lies inside the stream, is no longer than the family's longest, and the bytes skipped before it do too.
 pub record Inside (family : ℕ) (bs : List ℕ) (f : Found) : Type 0 where
-  pub above : 0 < f .size
-  pub short : f .size ≤ longest family
-  pub ends : f .start + f .size ≤ length bs
+  pub above : 0 < f .length
+  pub short : f .length ≤ longest family
+  pub ends : f .start + f .length ≤ length bs
   pub skips : f .skipped ≤ f .start
 
 first-drained : (h : List ℕ → Head) (bs : List ℕ) (l : Look) → byLook l (λ k n f behind. part k n bs) (λ k rest. []) ≡ firstOf bs (drains h 0 0 l)
@@ -135,8 +135,8 @@ module _ (family : ℕ) (facts : Facts (head family) (longest family)) where
     where
       inside : (f : Found) → Stands (head family) 0 0 bs f → Inside family bs f
       inside f s =
-          let size = facts .fits (drop (s .place) bs) (f .size) (f .frame) (s .here) in
-          let whole : f .size ≤ length bs - s .place = rw (length-drop (s .place) bs) at (size .2) in
+          let size = facts .fits (drop (s .place) bs) (f .length) (f .frame) (s .here) in
+          let whole : f .length ≤ length bs - s .place = rw (length-drop (s .place) bs) at (size .2) in
           let starts : f .start ≡ 0 + s .place = s .starts in
           record { above = size .0; short = size .1; ends = omega (arith, size .0); skips = omega (arith, s .skips) }
 
@@ -148,7 +148,7 @@ module _ (family : ℕ) (facts : Facts (head family) (longest family)) where
       let skipped-small : f .skipped < 2 ^ 32 = omega (arith, s .ends, s .skips) in
       ap₂
       (λ (g : Found) (gs : List Found). g ∷ gs)
-      (ap₂ (λ (start skipped : ℕ). found start skipped (f .size) (f .frame)) (mod-eq-of-lt start-small) (mod-eq-of-lt skipped-small))
+      (ap₂ (λ (start skipped : ℕ). found start skipped (f .length) (f .frame)) (mod-eq-of-lt start-small) (mod-eq-of-lt skipped-small))
       (unwrapped bs p fs e)
 
   pub capture-unwrapped : (bs : List ℕ) → length bs ≤ 65536 → map wrapped (frames family bs) ≡ frames family bs
@@ -189,12 +189,12 @@ lists-fit family capture out answer n after lists counts =
 
 -- The reader's starts are the lister's, modulo 2^32; and on a capture its frames are the rule's, with nothing wrapped.
 module _ (family : ℕ) (known : isFamily family ≡ true) (facts : Facts (head family) (longest family)) (t : Turned) (begins : t ≡ fresh family)
-    (stream sizes : List ℕ) (answers : List Answer) (session : Session (t .reader) stream sizes answers) where
+    (stream lengths : List ℕ) (answers : List Answer) (session : Session (t .reader) stream lengths answers) where
   pub starts-agree : startsOf (handed answers) ≡ map wrap (startsOf (frames family stream))
-  starts-agree = ap startsOf (demand3 family known facts t begins stream sizes answers session .list) ∙ starts-wrapped (frames family stream)
+  starts-agree = ap startsOf (demand3 family known facts t begins stream lengths answers session .list) ∙ starts-wrapped (frames family stream)
 
   pub capture-agrees : length stream ≤ 65536 → handed answers ≡ frames family stream
-  capture-agrees p = demand3 family known facts t begins stream sizes answers session .list ∙ capture-unwrapped family facts stream p
+  capture-agrees p = demand3 family known facts t begins stream lengths answers session .list ∙ capture-unwrapped family facts stream p
 
   -- So where the lister says how many, the front of its list are the starts of the frames that the reader hands out.
   pub lister-agrees : (out : List ℕ) (n : ℕ) (after : List ℕ) → Lists family stream out (Count n) after

@@ -93,7 +93,7 @@ rule-inside h (suc n) at skipped (b ∷ bs) = rule-inside h n (suc at) skipped b
 
 -- a frame as the rule lists it
 abbrev pub found : ℕ → ℕ → ℕ → Frame → Found
-found start skipped size f = record { start = start; skipped = skipped; size = size; frame = f }
+found start skipped n f = record { start = start; skipped = skipped; length = n; frame = f }
 
 -- The rule lists a good head and goes on right behind it. A bad head it skips, and an undecided one too: it is given the
 -- whole stream.

@@ -1,4 +1,4 @@
--- Sessions there are: whatever the stream and the sizes of the first calls, a session begins with them, and it ends. With
+-- Sessions there are: whatever the stream and the lengths of the first calls, a session begins with them, and it ends. With
 -- each frame that is handed out, fewer bytes are held and left; once all are taken, the reader is closed, and is done
 -- after at most one call for each byte that it holds, and one. Assumes nothing.
 use Prim.Native.Nat.{ℕ, zero, suc, _+_, _-_, _≤_, _<_}
@@ -22,20 +22,20 @@ use Rattle.stream_laws.proofs.Calls.{call-gives, gives-adds-up, gives-a
 use Rattle.stream_laws.proofs.Sessions.{openFed, closedFed, fed-open, fed-closed, shut-holding, fresh-holding}
 
 -- some draining of a closed reader that holds these bytes, and some session of an open one whose first calls have these
--- sizes
+-- lengths
 abbrev Drains : ℕ → List ℕ → ℕ → ℕ → Type 0
 Drains family bytes at skipped = (answers : List Answer) × Draining (holding family 1 bytes (wrap at) (wrap skipped)) answers
 
 abbrev Runs : Reader → List ℕ → List ℕ → Type 0
-Runs r left sizes = (more : List ℕ) × (answers : List Answer) × Session r left (sizes ++ more) answers
+Runs r left lengths = (more : List ℕ) × (answers : List Answer) × Session r left (lengths ++ more) answers
 
 -- a call, and a session from the state and the bytes that it leaves
-run-call : (r : Reader) (left : List ℕ) (size : ℕ) (sizes : List ℕ) (a : Fed) → fed r (take size left) ≡ a
-    → Runs (a .reader) (drop (takenOf (a .answer)) left) sizes → Runs r left (size ∷ sizes)
-run-call r left size sizes a e (more, answers, session) =
-    let now = fed r (take size left) in
-    let then = subst (λ (b : Fed). Session (b .reader) (drop (takenOf (b .answer)) left) (sizes ++ more) answers) (sym e) session in
-    (more, now .answer ∷ answers, Session.calls size now refl then)
+run-call : (r : Reader) (left : List ℕ) (most : ℕ) (lengths : List ℕ) (a : Fed) → fed r (take most left) ≡ a
+    → Runs (a .reader) (drop (takenOf (a .answer)) left) lengths → Runs r left (most ∷ lengths)
+run-call r left most lengths a e (more, answers, session) =
+    let now = fed r (take most left) in
+    let then = subst (λ (b : Fed). Session (b .reader) (drop (takenOf (b .answer)) left) (lengths ++ more) answers) (sym e) session in
+    (more, now .answer ∷ answers, Session.calls most now refl then)
 
 module _ (family : ℕ) (known : isFamily family ≡ true) (facts : Facts (head family) (longest family)) where
   drain-next : (fuel : ℕ) → ((bytes : List ℕ) (at skipped : ℕ) → length bytes < fuel → length bytes < longest family → Drains family bytes at skipped)
@@ -103,33 +103,33 @@ module _ (family : ℕ) (known : isFamily family ≡ true) (facts : Facts (head 
       run-call (holding family 0 bytes (wrap at) (wrap skipped)) left (length left) [] (openFed family at skipped c) is-open then in
       (length left ∷ more, answers, session)
 
-  -- The first calls have the sizes given.
-  begin-call : (sizes : List ℕ)
-      → ((bytes : List ℕ) (at skipped : ℕ) (left : List ℕ) → length bytes < longest family → Runs (holding family 0 bytes (wrap at) (wrap skipped)) left sizes)
-      → (bytes : List ℕ) (at skipped : ℕ) (left : List ℕ) (size : ℕ) → length bytes < longest family
-      → (c : Call) → call (head family) bytes (take size left) ≡ c
+  -- The first calls have the lengths given.
+  begin-call : (lengths : List ℕ)
+      → ((bytes : List ℕ) (at skipped : ℕ) (left : List ℕ) → length bytes < longest family → Runs (holding family 0 bytes (wrap at) (wrap skipped)) left lengths)
+      → (bytes : List ℕ) (at skipped : ℕ) (left : List ℕ) (most : ℕ) → length bytes < longest family
+      → (c : Call) → call (head family) bytes (take most left) ≡ c
       → let a : Fed = openFed family at skipped c in
-      Runs (a .reader) (drop (takenOf (a .answer)) left) sizes
-  begin-call sizes later bytes at skipped left size few (gives taken k n f kept) e =
-      later kept (at + (k + n)) 0 (drop taken left) (gives-short (head family) (longest family) facts bytes (take size left) taken k n f kept e few)
-  begin-call sizes later bytes at skipped left size few (wants taken k kept) e =
-      later kept (at + k) (skipped + k) (drop taken left) (wants-short (head family) (longest family) facts bytes (take size left) taken k kept e)
+      Runs (a .reader) (drop (takenOf (a .answer)) left) lengths
+  begin-call lengths later bytes at skipped left most few (gives taken k n f kept) e =
+      later kept (at + (k + n)) 0 (drop taken left) (gives-short (head family) (longest family) facts bytes (take most left) taken k n f kept e few)
+  begin-call lengths later bytes at skipped left most few (wants taken k kept) e =
+      later kept (at + k) (skipped + k) (drop taken left) (wants-short (head family) (longest family) facts bytes (take most left) taken k kept e)
 
-  begin : (sizes : List ℕ) (bytes : List ℕ) (at skipped : ℕ) (left : List ℕ) → length bytes < longest family
-      → Runs (holding family 0 bytes (wrap at) (wrap skipped)) left sizes
+  begin : (lengths : List ℕ) (bytes : List ℕ) (at skipped : ℕ) (left : List ℕ) → length bytes < longest family
+      → Runs (holding family 0 bytes (wrap at) (wrap skipped)) left lengths
   begin [] bytes at skipped left few = finish (suc (length bytes + length left)) bytes at skipped left (omega arith) few
-  begin (size ∷ sizes) bytes at skipped left few =
-      let c : Call = call (head family) bytes (take size left) in
-      let is-open = fed-open family known bytes few at skipped (take size left) in
-      let then = begin-call sizes (begin sizes) bytes at skipped left size few c refl in
-      run-call (holding family 0 bytes (wrap at) (wrap skipped)) left size sizes (openFed family at skipped c) is-open then
+  begin (most ∷ lengths) bytes at skipped left few =
+      let c : Call = call (head family) bytes (take most left) in
+      let is-open = fed-open family known bytes few at skipped (take most left) in
+      let then = begin-call lengths (begin lengths) bytes at skipped left most few c refl in
+      run-call (holding family 0 bytes (wrap at) (wrap skipped)) left most lengths (openFed family at skipped c) is-open then
 
--- For every stream and all sizes of the first calls there is a session.
+-- For every stream and all lengths of the first calls there is a session.
 pub possible : (family : ℕ) → isFamily family ≡ true → Facts (head family) (longest family)
     → (t : Turned) → t ≡ fresh family
-    → (stream sizes : List ℕ) → (more : List ℕ) × (answers : List Answer) × Session (t .reader) stream (sizes ++ more) answers
-possible family known facts t e stream sizes =
+    → (stream lengths : List ℕ) → (more : List ℕ) × (answers : List Answer) × Session (t .reader) stream (lengths ++ more) answers
+possible family known facts t e stream lengths =
     subst
-    (λ (r : Reader). Runs r stream sizes)
+    (λ (r : Reader). Runs r stream lengths)
     (sym (fresh-holding family known t e))
-    (begin family known facts sizes [] 0 0 stream (top-above (head family) (longest family) facts))
+    (begin family known facts lengths [] 0 0 stream (top-above (head family) (longest family) facts))

@@ -1,4 +1,4 @@
--- Demand 3, for any family that has the four facts: whatever the sizes of its calls, a session on a fresh reader hands out
+-- Demand 3, for any family that has the four facts: whatever the lengths of its calls, a session on a fresh reader hands out
 -- the frames that the rule finds in the whole stream. Each call leaves to the later ones exactly what the rule has still
 -- to find, in a state that is made from the bytes it holds, the place of the first and the bytes skipped, both wrapped.
 -- Assumes nothing.
@@ -74,17 +74,17 @@ module _ (family : ℕ) (known : isFamily family ≡ true) (bytes : List ℕ) (f
       ∙ ap (λ (l : List ℕ). record { reader = holding family 1 l (wrap at) (wrap skipped); outcome = Accepted }) (held-of-holding family closed bytes (wrap at) (wrap skipped))
 
 -- what a call that offered the first bytes of what was left, and took some of those, leaves
-left-behind : (size taken : ℕ) (left : List ℕ) → taken ≤ length (take size left) → drop taken (take size left) ++ drop size left ≡ drop taken left
-left-behind size taken left p = sym (drop-append-le taken (take size left) (drop size left) p) ∙ ap (drop taken) (take-append-drop size left)
+left-behind : (most taken : ℕ) (left : List ℕ) → taken ≤ length (take most left) → drop taken (take most left) ++ drop most left ≡ drop taken left
+left-behind most taken left p = sym (drop-append-le taken (take most left) (drop most left) p) ∙ ap (drop taken) (take-append-drop most left)
 
-taken-left : (size taken : ℕ) (left : List ℕ) → taken ≤ length (take size left) → taken + length (drop taken left) ≡ length left
-taken-left size taken left p =
-    let within : taken ≤ min size (length left) = rw (length-take size left) at p in
+taken-left : (most taken : ℕ) (left : List ℕ) → taken ≤ length (take most left) → taken + length (drop taken left) ≡ length left
+taken-left most taken left p =
+    let within : taken ≤ min most (length left) = rw (length-take most left) at p in
     rw (length-drop taken left) (omega arith)
 
 -- What answers tell, from what those behind the first tell. The first hands out a frame:
 abbrev handingOut : ℕ → Found → Answer
-handingOut t f = Ready (record { taken = t; start = wrap (f .start); skipped = wrap (f .skipped); length = f .size; frame = f .frame })
+handingOut t f = Ready (record { taken = t; start = wrap (f .start); skipped = wrap (f .skipped); length = f .length; frame = f .frame })
 
 module _ (top before after t left left′ : ℕ) (took : before + t ≡ after) (leaves : t + left′ ≡ left) (answers : List Answer) where
   tells-ready : (f : Found) (fs fs′ : List Found) → fs ≡ f ∷ fs′ → after ≤ f .start + top
@@ -132,23 +132,23 @@ ClosedTells family r answers =
 
 module _ (family : ℕ) (known : isFamily family ≡ true) (facts : Facts (head family) (longest family)) where
   -- A call of an open reader, by what it gives:
-  call-tells : (left : List ℕ) (size : ℕ) (answers : List Answer) (bytes : List ℕ) (at skipped : ℕ) → length bytes < longest family
-      → (c : Call) → call (head family) bytes (take size left) ≡ c
+  call-tells : (left : List ℕ) (most : ℕ) (answers : List Answer) (bytes : List ℕ) (at skipped : ℕ) → length bytes < longest family
+      → (c : Call) → call (head family) bytes (take most left) ≡ c
       → let a : Fed = openFed family at skipped c in
       OpenTells family (a .reader) (drop (takenOf (a .answer)) left) answers
       → Tells (longest family) (at + length bytes) (length left) (rule (head family) 0 at skipped (bytes ++ left)) (a .answer ∷ answers)
-  call-tells left size answers bytes at skipped few (gives taken k n f kept) e later =
+  call-tells left most answers bytes at skipped few (gives taken k n f kept) e later =
       let h : List ℕ → Head = head family in
       let top : ℕ = longest family in
-      let offered : List ℕ = take size left in
+      let offered : List ℕ = take most left in
       let within : taken ≤ length offered = call-gives h top facts bytes offered taken k n f kept e .within in
       let adds-up : k + (n + length kept) ≡ length bytes + taken = gives-adds-up h top facts bytes offered taken k n f kept e in
       let late : n + length kept ≤ top = gives-in-time h top facts bytes offered taken k n f kept e few in
       let rest : List Found = rule h 0 (at + (k + n)) 0 (kept ++ drop taken left) in
       let finds : rule h 0 at skipped (bytes ++ left) ≡ found (at + k) (skipped + k) n f ∷ rest =
-      ap (λ (l : List ℕ). rule h 0 at skipped (bytes ++ l)) (sym (take-append-drop size left))
-      ∙ rule-gives h top facts bytes offered taken k n f kept e at skipped (drop size left)
-      ∙ ap (λ (l : List ℕ). found (at + k) (skipped + k) n f ∷ rule h 0 (at + (k + n)) 0 (kept ++ l)) (left-behind size taken left within) in
+      ap (λ (l : List ℕ). rule h 0 at skipped (bytes ++ l)) (sym (take-append-drop most left))
+      ∙ rule-gives h top facts bytes offered taken k n f kept e at skipped (drop most left)
+      ∙ ap (λ (l : List ℕ). found (at + k) (skipped + k) n f ∷ rule h 0 (at + (k + n)) 0 (kept ++ l)) (left-behind most taken left within) in
       tells-ready top
       (at + length bytes)
       (at + (k + n) + length kept)
@@ -156,7 +156,7 @@ module _ (family : ℕ) (known : isFamily family ≡ true) (facts : Facts (head 
       (length left)
       (length (drop taken left))
       (omega arith)
-      (taken-left size taken left within)
+      (taken-left most taken left within)
       answers
       (found (at + k) (skipped + k) n f)
       (rule h 0 at skipped (bytes ++ left))
@@ -164,18 +164,18 @@ module _ (family : ℕ) (known : isFamily family ≡ true) (facts : Facts (head 
       finds
       (omega arith)
       (later kept (at + (k + n)) 0 refl (gives-short h top facts bytes offered taken k n f kept e few))
-  call-tells left size answers bytes at skipped few (wants taken k kept) e later =
+  call-tells left most answers bytes at skipped few (wants taken k kept) e later =
       let h : List ℕ → Head = head family in
       let top : ℕ = longest family in
-      let offered : List ℕ = take size left in
+      let offered : List ℕ = take most left in
       let everything : taken ≡ length offered = call-wants h top facts bytes offered taken k kept e .everything in
       let adds-up : k + length kept ≡ length bytes + taken = wants-adds-up h top facts bytes offered taken k kept e in
       let none-left : drop taken offered ≡ [] = ap (λ (i : ℕ). drop i offered) everything ∙ drop-length offered in
       let finds : rule h 0 at skipped (bytes ++ left) ≡ rule h 0 (at + k) (skipped + k) (kept ++ drop taken left) =
-      ap (λ (l : List ℕ). rule h 0 at skipped (bytes ++ l)) (sym (take-append-drop size left))
-      ∙ rule-wants h top facts bytes offered taken k kept e at skipped (drop size left)
+      ap (λ (l : List ℕ). rule h 0 at skipped (bytes ++ l)) (sym (take-append-drop most left))
+      ∙ rule-wants h top facts bytes offered taken k kept e at skipped (drop most left)
       ∙ ap (λ (l : List ℕ). rule h 0 (at + k) (skipped + k) (kept ++ l))
-      (ap (λ (l : List ℕ). l ++ drop size left) (sym none-left) ∙ left-behind size taken left (omega arith)) in
+      (ap (λ (l : List ℕ). l ++ drop most left) (sym none-left) ∙ left-behind most taken left (omega arith)) in
       tells-more top
       (at + length bytes)
       (at + k + length kept)
@@ -183,7 +183,7 @@ module _ (family : ℕ) (known : isFamily family ≡ true) (facts : Facts (head 
       (length left)
       (length (drop taken left))
       (omega arith)
-      (taken-left size taken left (omega arith))
+      (taken-left most taken left (omega arith))
       answers
       (rule h 0 at skipped (bytes ++ left))
       (rule h 0 (at + k) (skipped + k) (kept ++ drop taken left))
@@ -274,14 +274,14 @@ module _ (family : ℕ) (known : isFamily family ≡ true) (facts : Facts (head 
       done
 
   -- All calls of a session:
-  told : {r : Reader} {left sizes : List ℕ} {answers : List Answer} → Session r left sizes answers → OpenTells family r left answers
-  told (Session.calls {left = left} {answers = answers} size a e later) bytes at skipped s few =
+  told : {r : Reader} {left lengths : List ℕ} {answers : List Answer} → Session r left lengths answers → OpenTells family r left answers
+  told (Session.calls {left = left} {answers = answers} most a e later) bytes at skipped s few =
       subst
       (λ (b : Fed).
       OpenTells family (b .reader) (drop (takenOf (b .answer)) left) answers
       → Tells (longest family) (at + length bytes) (length left) (rule (head family) 0 at skipped (bytes ++ left)) (b .answer ∷ answers))
-      (sym (e ∙ ap (λ (r : Reader). fed r (take size left)) s ∙ fed-open family known bytes few at skipped (take size left)))
-      (call-tells left size answers bytes at skipped few (call (head family) bytes (take size left)) refl)
+      (sym (e ∙ ap (λ (r : Reader). fed r (take most left)) s ∙ fed-open family known bytes few at skipped (take most left)))
+      (call-tells left most answers bytes at skipped few (call (head family) bytes (take most left)) refl)
       (λ bytes′ at′ skipped′ s′ few′. told later bytes′ at′ skipped′ s′ few′)
   told (Session.closes {answers = answers} t e later) bytes at skipped s few =
       subst
@@ -296,6 +296,6 @@ fresh-holding family known t e = ap (λ (u : Turned). u .reader) e ∙ rw known
 -- Demand 3: take a fresh reader and a stream, cut into calls anywhere.
 pub demand3 : (family : ℕ) → isFamily family ≡ true → Facts (head family) (longest family)
     → (t : Turned) → t ≡ fresh family
-    → (stream sizes : List ℕ) (answers : List Answer) → Session (t .reader) stream sizes answers → Demand3 family stream answers
-demand3 family known facts t e stream sizes answers session =
+    → (stream lengths : List ℕ) (answers : List Answer) → Session (t .reader) stream lengths answers → Demand3 family stream answers
+demand3 family known facts t e stream lengths answers session =
     told family known facts session [] 0 0 (fresh-holding family known t e) (top-above (head family) (longest family) facts)

@@ -27,4 +27,4 @@ pub data EarliestFirst (family : ℕ) (bs : List ℕ) : ℕ → List Found → T
       → NoneBetween family bs from (from + k)
       → GoodAt family bs (from + k) n f
       → EarliestFirst family bs (from + k + n) fs
-      → EarliestFirst family bs from (record { start = from + k; skipped = k; size = n; frame = f } ∷ fs)
+      → EarliestFirst family bs from (record { start = from + k; skipped = k; length = n; frame = f } ∷ fs)

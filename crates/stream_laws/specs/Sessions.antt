@@ -34,22 +34,22 @@ pub data Draining : Reader → List Answer → Type 0 where
 -- them if there are fewer, and whatever it did not take is left; then, when nothing is left, the close. The lists are
 -- the numbers offered and the answers of all calls, in order.
 pub data Session : Reader → List ℕ → List ℕ → List Answer → Type 0 where
-  calls : {r : Reader} {left sizes : List ℕ} {answers : List Answer} (size : ℕ) (a : Fed) → a ≡ fed r (take size left)
-      → Session (a .reader) (drop (takenOf (a .answer)) left) sizes answers
-      → Session r left (size ∷ sizes) (a .answer ∷ answers)
+  calls : {r : Reader} {left lengths : List ℕ} {answers : List Answer} (n : ℕ) (a : Fed) → a ≡ fed r (take n left)
+      → Session (a .reader) (drop (takenOf (a .answer)) left) lengths answers
+      → Session r left (n ∷ lengths) (a .answer ∷ answers)
   closes : {r : Reader} {answers : List Answer} (t : Turned) → t ≡ shut r → Draining (t .reader) answers → Session r [] [] answers
 
 -- the frames that the answers hand out, with their start, the bytes skipped before them, and their length
 abbrev pub handed : List Answer → List Found
 handed [] = []
-handed (Ready r ∷ answers) = record { start = r .start; skipped = r .skipped; size = r .length; frame = r .frame } ∷ handed answers
+handed (Ready r ∷ answers) = record { start = r .start; skipped = r .skipped; length = r .length; frame = r .frame } ∷ handed answers
 handed (More n ∷ answers) = handed answers
 handed (Done n ∷ answers) = handed answers
 handed (Refused n ∷ answers) = handed answers
 
 -- a frame of the rule with its two counts modulo 2^32
 abbrev pub wrapped : Found → Found
-wrapped f = record { start = wrap (f .start); skipped = wrap (f .skipped); size = f .size; frame = f .frame }
+wrapped f = record { start = wrap (f .start); skipped = wrap (f .skipped); length = f .length; frame = f .frame }
 
 -- the bytes that all the calls took
 abbrev pub takenIn : List Answer → ℕ

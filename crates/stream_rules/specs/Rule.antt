@@ -16,7 +16,7 @@ byHead (good n f) onWait onBad onGood = onGood n f
 pub record Found : Type 0 where
   pub start : ℕ
   pub skipped : ℕ
-  pub size : ℕ
+  pub length : ℕ
   pub frame : Frame
 
 -- The rule: the good frame that begins earliest, then on right behind it, and so on. `inside` bytes still belong to the
@@ -27,7 +27,7 @@ rule h inside at skipped [] = []
 rule h (suc inside) at skipped (b ∷ bs) = rule h inside (suc at) skipped bs
 rule h zero at skipped (b ∷ bs) =
     let on : List Found = rule h zero (suc at) (suc skipped) bs in
-    byHead (h (b ∷ bs)) on on (λ n f. record { start = at; skipped = skipped; size = n; frame = f } ∷ rule h (pred n) (suc at) zero bs)
+    byHead (h (b ∷ bs)) on on (λ n f. record { start = at; skipped = skipped; length = n; frame = f } ∷ rule h (pred n) (suc at) zero bs)
 
 -- What is found in held bytes: a frame that is ready behind some skipped bytes, with its length and the bytes behind it;
 -- or, behind the skipped bytes, those from the first undecided start on.

@@ -59,7 +59,7 @@ holdsTooMuch = 6
 -- What the answers say in the terms of document 01. A call gives a frame, wants more or is done. Its values: the bytes
 -- taken; with a frame also its start, the bytes skipped, its length, and the frame's own values.
 abbrev pub saysFrame : ℕ → ℕ → ℕ → ℕ → Frame → Says
-saysFrame taken start skipped size f = yes (aFrame (kindOf f)) (pos taken ∷ pos start ∷ pos skipped ∷ pos size ∷ values f)
+saysFrame taken start skipped length f = yes (aFrame (kindOf f)) (pos taken ∷ pos start ∷ pos skipped ∷ pos length ∷ values f)
 
 abbrev pub saysMore : ℕ → Says
 saysMore taken = yes moreWanted (pos taken ∷ [])

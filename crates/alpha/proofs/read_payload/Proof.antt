@@ -8,7 +8,7 @@ use denote.Ref.{now}
 use borrow.Author.Needs.{needs}
 use Rattle.rules.specs.Sentences.{numberOf}
 use Rattle.texts.specs.declared.numbers.Number.{Number}
-use Rattle.alpha.proofs.Payloads.{the-number, number-small, behind, as02, as03, as05, as-other}
+use Rattle.alpha.proofs.Payloads.{the-number, number-small, behind, by02, by03, by05, as-other}
 use Rattle.alpha.proofs.read_payload.Statement.{statement}
 use Rattle.alpha.proofs.read_payload.Tie as tie
 
@@ -64,19 +64,19 @@ returns : tie.Need-returns
 unfolding the-payload
 returns c =
     let read = c .before .before .before in
-    c .read02 .ensures ∙ rw (behind (the-payload read)) (sym (as02 _ _ (sym (counted read) ∙ c .before .match .keys1)))
+    c .read02 .ensures ∙ rw (behind (the-payload read)) (sym (by02 _ _ (sym (counted read) ∙ c .before .match .keys1)))
 
 returns-2 : tie.Need-returns-2
 unfolding the-payload
 returns-2 c =
     let read = c .before .before .before in
-    c .read03 .ensures ∙ rw (behind (the-payload read)) (sym (as03 _ _ (sym (counted read) ∙ c .before .match .keys2)))
+    c .read03 .ensures ∙ rw (behind (the-payload read)) (sym (by03 _ _ (sym (counted read) ∙ c .before .match .keys2)))
 
 returns-3 : tie.Need-returns-3
 unfolding the-payload
 returns-3 c =
     let read = c .before .before .before in
-    c .read05 .ensures ∙ rw (behind (the-payload read)) (sym (as05 _ _ (sym (counted read) ∙ c .before .match .keys3)))
+    c .read05 .ensures ∙ rw (behind (the-payload read)) (sym (by05 _ _ (sym (counted read) ∙ c .before .match .keys3)))
 
 returns-4 : tie.Need-returns-4
 unfolding the-payload

@@ -32,7 +32,7 @@ put-decimals-requires : tie.Need-put-decimals-requires
 unfolding numbers02 decimals commas withZeros
 put-decimals-requires c κs =
     let start = c .before .before .before .before .before .before .before .before .before .before in
-    rw (c .before .before .before .before .before .before .before .before .of-02 .ensures) (refl, fit02 (start .args .r) (start .pre .0), omega arith)
+    rw (c .before .before .before .before .before .before .before .before .of-02 .ensures) (record { same = refl; fits = fit02 (start .args .r) (start .pre .0); room = omega arith })
 
 put-seal-requires : tie.Need-put-seal-requires
 put-seal-requires c κs = search needs

@@ -34,7 +34,7 @@ put-decimals-requires : tie.Need-put-decimals-requires
 unfolding numbers03 decimals commas withZeros
 put-decimals-requires c κs =
     let start = c .before .before .before .before .before .before .before .before .before .before in
-    rw (c .before .before .before .before .before .before .before .before .of-03 .ensures) (refl, fit03 (start .args .r) (start .pre .0), omega arith)
+    rw (c .before .before .before .before .before .before .before .before .of-03 .ensures) (record { same = refl; fits = fit03 (start .args .r) (start .pre .0); room = omega arith })
 
 put-temperature-requires : tie.Need-put-temperature-requires
 put-temperature-requires c κs =

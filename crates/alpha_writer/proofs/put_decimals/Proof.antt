@@ -6,15 +6,15 @@ use mathlib.Core.Path.{_≡_, refl}
 use native.Mathlib.Omega.{arith}
 use denote.Ref.{now}
 use lib.ListN.{length, drop, getD}
-use Rattle.rules.specs.Sentences.{decimals, commas}
 use Rattle.pens.specs.Pens.{laid}
+use Rattle.alpha_writer.specs.Parts.{decimalFields}
 use Rattle.alpha_writer.proofs.Decimals.{Left, step, all-laid}
 use Rattle.alpha_writer.proofs.put_decimals.Statement.{statement}
 use Rattle.alpha_writer.proofs.put_decimals.Tie as tie
 
 abbrev Inv-loop : tie.InvT-loop
 Inv-loop out₀ at widths numbers place₀ i₀ out place i =
-    (i ≤ length widths) × (length out ≡ length out₀) × Left place (drop i widths) (drop i numbers) out (laid at (commas (decimals widths numbers)) out₀)
+    (i ≤ length widths) × (length out ≡ length out₀) × Left place (drop i widths) (drop i numbers) out (laid at (decimalFields widths numbers) out₀)
 
 abbrev μ-loop : tie.MeasureT-loop
 μ-loop out₀ at widths numbers place₀ i₀ out place i = length widths - i
@@ -24,14 +24,15 @@ after : (c : tie.After-slice-known2 Inv-loop μ-loop)
     → let a = c .before .before .before .before .before .before .before .before .before .before .before .args in
     let l = c .before .before .before .before .before .before .before .loop in
     Left (l .place + getD (now (a .widths)) (l .i) 0 + 1) (drop (l .i + 1) (now (a .widths))) (drop (l .i + 1) (now (a .numbers))) (c .before .before .put-field .last .0)
-    (laid (a .at) (commas (decimals (now (a .widths)) (now (a .numbers)))) (now (a .out)))
+    (laid (a .at) (decimalFields (now (a .widths)) (now (a .numbers))) (now (a .out)))
 after c =
     let a = c .before .before .before .before .before .before .before .before .before .before .before .args in
     let l = c .before .before .before .before .before .before .before .loop in
-    step (l .i) (now (a .widths)) (now (a .numbers)) (omega arith) (omega arith) (l .inv .2) (c .before .before .put-field .ensures)
+    let same = c .before .before .before .before .before .before .before .before .before .before .before .pre .same in
+    step (l .i) (now (a .widths)) (now (a .numbers)) (omega arith) (omega (arith, same)) (l .inv .2) (c .before .before .put-field .ensures)
 
 loop-holds : tie.Need-loop-holds Inv-loop μ-loop
-loop-holds c = (omega arith, refl, record { fits = c .before .before .before .pre .1; room = c .before .before .before .pre .2; rest = refl })
+loop-holds c = (omega arith, refl, record { fits = c .before .before .before .pre .fits; room = c .before .before .before .pre .room; rest = refl })
 
 mul-w : tie.Need-mul-w Inv-loop μ-loop
 mul-w c = omega arith

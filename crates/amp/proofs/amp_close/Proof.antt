@@ -1,5 +1,7 @@
--- `amp::amp_close` meets its contract: a walk of its MIR, by hand. The borrow is opened, the reader is copied out and passed to `closed`, the reader that comes back is stored over the old one, and the borrow is closed at it.
--- All that the proof knows of `closed` is that it meets its contract. A reader owns only facts, so what the callee is passed is not missed, and of the two parts of its result the relation makes what is owned.
+-- `amp::amp_close` meets its contract: a walk of its MIR, by hand. The borrow is opened, the reader is copied out and
+-- passed to `closed`, the reader that comes back is stored over the old one, and the borrow is closed at it. All that
+-- the proof knows of `closed` is that it meets its contract. A reader owns only facts, so what the callee is passed is
+-- not missed, and of the two parts of its result the relation makes what is owned.
 -- Assumes nothing.
 use mathlib.Core.Path.{refl, ap}
 use Prim.Native.Nat.{ℕ}

@@ -1,6 +1,10 @@
--- `amp::amp_feed` meets its contract: a walk of its MIR, by hand. The borrow of the reader is opened, and the reader is worked on where it lies: five of its parts are read, its held places are lent to `row_stream::feed_row` and taken back as that leaves them, and three counts are stored. The borrow is closed at the reader that lies there then.
--- All that the proof knows of the callee is that it meets its contract: what that says of the reader's parts is said of the reader, which is the record of its parts, and has as many held places as their type says.
--- The offered bytes are Copy, so what they own is had twice, and one copy goes to the callee. The lent numbers are given up for good, at their own lifetime, share and name: what the callee says of the last list under that name is what is said at exit.
+-- `amp::amp_feed` meets its contract: a walk of its MIR, by hand. The borrow of the reader is opened, and the reader is
+-- worked on where it lies: five of its parts are read, its held places are lent to `row_stream::feed_row` and taken
+-- back as that leaves them, and three counts are stored. The borrow is closed at the reader that lies there then. All
+-- that the proof knows of the callee is that it meets its contract: what that says of the reader's parts is said of the
+-- reader, which is the record of its parts, and has as many held places as their type says. The offered bytes are Copy,
+-- so what they own is had twice, and one copy goes to the callee. The lent numbers are given up for good, at their own
+-- lifetime, share and name: what the callee says of the last list under that name is what is said at exit.
 -- Assumes nothing.
 use mathlib.Core.Path.{_≡_, refl, ap}
 use Prim.Native.Nat.{ℕ, _+_}
@@ -197,7 +201,9 @@ module _ {M : Type 1} (𝓤 : URA M) (H : Heap 𝓤) (A : Atoms 𝓤) (W : Given
         alloc1 ! (λ l₀. alloc1 ! (λ l₁. alloc1 ! (λ l₂. alloc1 ! (λ l₃. alloc1 ! (λ l₄. alloc1 ! (λ l₅. alloc1 ! (λ l₆. alloc1 ! (λ l₇. alloc1 ! (λ l₈. alloc1 ! (λ l₉. alloc1 ! (λ l₁₀. alloc1 ! (λ l₁₁. alloc1 ! (λ l₁₂. alloc0 ! $ params1 ! $
         pass1 ! (init ! 22 refl (tt, tt)) $ pass1 ! (init ! 20 refl (shr-slice-lawful 𝓤 H A W (named 1) κ′ u8 .typed s (v ∷ []) p .0)) $ pass1 ! (init ! 18 refl (mut-slice-lawful 𝓤 H A W (named 2) κ″ i64 .typed l (m ∷ []) p″ .0)) $ pass0 ! $
         move ! (26 ∷ 27 ∷ 28 ∷ []) $ opens-reader ! tt h b o (λ was. move ! (1 ∷ []) $ drop ! $ typed ! R′.mir $
-        -- [the reader's cell; the open borrow; obs; auth; room for _12; …; _11; …; _10; …; _9; …; _8; …; _7; …; _6; …; _5; …; _4; …; _3; …; _2; …; _1; …; room for _0; …; what the offered bytes own; what the numbers own; their tokens; true]
+        -- [the reader's cell; the open borrow; obs; auth; room for _12; …; _11; …; _10; …; _9; …; _8; …; _7; …; _6; …;
+        -- _5; …; _4; …; _3; …; _2; …; _1; …; room for _0; …; what the offered bytes own; what the numbers own; their
+        -- tokens; true]
         assigns ! (of-opd ! (load ! (from ! (hop ! (look ! 26 refl) (fld ! refl (stop !)))) (look-in ! 0 (sub ! 0 refl (whole !))))) (from ! (stop !)) (init ! 18 refl (uint-lawful 𝓤 H A W w8 .typed (h .family) _ (parts h was .family-is) .0)) $
         assigns ! (of-opd ! (load ! (from ! (hop ! (look ! 26 refl) (fld ! refl (stop !)))) (look-in ! 0 (sub ! 1 refl (whole !))))) (from ! (stop !)) (init ! 16 refl (uint-lawful 𝓤 H A W w8 .typed (h .closed) _ (parts h was .closed-is) .0)) $
         assigns ! (of-opd ! (load ! (from ! (hop ! (look ! 26 refl) (fld ! refl (stop !)))) (look-in ! 0 (sub ! 2 refl (whole !))))) (from ! (stop !)) (init ! 14 refl (uint-lawful 𝓤 H A W w8 .typed (h .count) _ (parts h was .count-is) .0)) $
@@ -207,9 +213,11 @@ module _ {M : Type 1} (𝓤 : URA M) (H : Heap 𝓤) (A : Atoms 𝓤) (W : Given
         assigns ! (addr ! (from ! (fld ! refl (hop ! (look-in ! 22 (sub ! 0 refl (whole !))) (stop !))))) (from ! (stop !)) (init ! 6 refl (tt, tt)) $
         assigns ! (agg ! (and-then ! (load ! (from ! (stop !)) (look ! 6 refl)) (and-then ! (load ! (from ! (fld ! refl (stop !))) (look-in ! 22 (sub ! 1 refl (whole !)))) (no-more !)))) (from ! (stop !)) (init ! 4 refl (tt, (tt, (record { fits = p″ .0 .1 .0 }, tt)))) $
         lends-field ! tt R.the-type 3 held refl held-plain (h .held) (parts h was .held-is) (λ α δ.
-        -- [the places' token; what they own as lent; the lender's part; what is left of the reader's cell; the open borrow; obs; auth; _12; …; _0; …; what the offered bytes own; what the numbers own; their tokens; true]
+        -- [the places' token; what they own as lent; the lender's part; what is left of the reader's cell; the open
+        -- borrow; obs; auth; _12; …; _0; …; what the offered bytes own; what the numbers own; their tokens; true]
         move ! (0 ∷ 35 ∷ []) $ join ! $ move ! (0 ∷ 1 ∷ 33 ∷ 34 ∷ []) $ group ! 4 $ use1 W (raw (Feed 𝓤 H A at-mem run .pre (to α δ)) ⊛ ‵ Own) (given-up α δ (parts h was)) $ split ! $
-        -- [what the callee asks; what the offered bytes own; the lender's part; what is left of the reader's cell; the open borrow; obs; auth; _12; …; _0; …; true]
+        -- [what the callee asks; what the offered bytes own; the lender's part; what is left of the reader's cell; the
+        -- open borrow; obs; auth; _12; …; _0; …; true]
         calls-at ! fm (Feed 𝓤 H A at-mem run) known (to α δ)
         (and-then ! (load ! (from ! (stop !)) (look ! 21 refl)) (and-then ! (load ! (from ! (stop !)) (look ! 19 refl)) (and-then ! (load ! (from ! (stop !)) (look ! 17 refl)) (and-then ! (load ! (from ! (stop !)) (look ! 15 refl))
         (and-then ! (load ! (from ! (stop !)) (look ! 13 refl)) (and-then ! (load ! (from ! (stop !)) (look ! 11 refl)) (and-then ! (load ! (from ! (stop !)) (look ! 27 refl)) (and-then ! (load ! (from ! (stop !)) (look ! 7 refl)) (no-more !))))))))) (λ u.
@@ -218,11 +226,14 @@ module _ {M : Type 1} (𝓤 : URA M) (H : Heap 𝓤) (A : Atoms 𝓤) (W : Given
         split ! $ move ! (1 ∷ []) $ use1 W (some (λ (ws : Last α δ). ‵ (lasts feed-row.ended (κs α δ) (args α δ) ws) ⊛ raw (fact 𝓤 (Says α δ c ws)))) (id⊢ 𝓤 _) $ pick ! (λ ws.
         split ! $ move ! (1 ∷ []) $ heard ! (Says α δ c ws) (λ fed. fsplit ! $ drop ! $ fsplit ! $ drop ! $ fsplit ! $ drop ! $ fsplit ! $ drop ! $ fsplit ! $ drop ! $
         fsplit ! $ move ! (1 ∷ []) $ fsplit ! $ drop ! $ fsplit ! $ fsplit ! $ move ! (1 ∷ []) $ feqL ! (λ long.
-        -- [the last numbers; true; the last places; the tokens and the result; what the offered bytes own; the lender's part; what is left of the reader's cell; the open borrow; …]
+        -- [the last numbers; true; the last places; the tokens and the result; what the offered bytes own; the lender's
+        -- part; what is left of the reader's cell; the open borrow; …]
         move ! (3 ∷ []) $ split ! $ move ! (1 ∷ []) $ facts ! T.the-row (Is T.the-row) (shows 𝓤 H A T.the-row) c (u ∷ []) (λ is. split ! $
-        -- [the places' token; the other tokens; the last numbers; true; the last places; what the offered bytes own; the lender's part; what is left of the reader's cell; the open borrow; …]
+        -- [the places' token; the other tokens; the last numbers; true; the last places; what the offered bytes own;
+        -- the lender's part; what is left of the reader's cell; the open borrow; …]
         move ! (0 ∷ 6 ∷ 4 ∷ 7 ∷ []) $ takes-field ! tt R.the-type 3 held 3 held-val held-tells (low h) (places α δ ws) (λ held-is.
-        -- [the reader's cell; the tokens; the last numbers; true; what the offered bytes own; the open borrow; obs; auth; _12; …; _5; …; room for _4; …; _3; …; _2; …; _1; …; room for _0; …; true]
+        -- [the reader's cell; the tokens; the last numbers; true; what the offered bytes own; the open borrow; obs;
+        -- auth; _12; …; _5; …; room for _4; …; _3; …; _2; …; _1; …; room for _0; …; true]
         land ! (from ! (stop !)) (init ! 24 refl (LL.lawful T.the-type T′.the-laws 𝓤 H A W .typed c _ is .0)) $
         rewrite ! 24 (λ (w : Val). ‵ (fat fullShare T′.mir l₄ 0 w)) (ap only (T′.lowers .val-is c (u ∷ []) is)) refl $
         assigns ! (of-opd ! (load ! (from ! (fld ! refl (stop !))) (look-in ! 24 (sub ! 1 refl (whole !))))) (from ! (hop ! (look ! 30 refl) (fld ! refl (stop !)))) (store-in ! 0 (sub ! 2 refl (whole !)) (uint-lawful 𝓤 H A W w8 .typed (c .count) _ (counted c u is .count-is) .0)) $
@@ -230,7 +241,8 @@ module _ {M : Type 1} (𝓤 : URA M) (H : Heap 𝓤) (A : Atoms 𝓤) (W : Given
         assigns ! (of-opd ! (load ! (from ! (fld ! refl (stop !))) (look-in ! 24 (sub ! 3 refl (whole !))))) (from ! (hop ! (look ! 30 refl) (fld ! refl (stop !)))) (store-in ! 0 (sub ! 5 refl (whole !)) (uint-lawful 𝓤 H A W w32 .typed (c .skipped) _ (counted c u is .skipped-is) .0)) $
         assigns ! (of-opd ! (load ! (from ! (fld ! refl (stop !))) (look-in ! 24 (sub ! 0 refl (whole !))))) (from ! (stop !)) (init ! 32 refl (uint-lawful 𝓤 H A W w32 .typed (c .number) _ (counted c u is .number-is) .0)) $
         untyped ! R′.mir $ move ! (0 ∷ 5 ∷ 6 ∷ 7 ∷ []) $ closes-reader ! tt (after h c (places α δ ws)) (of-parts (after h c (places α δ ws)) (left h c (places α δ ws) (parts h was) (counted c u is) held-is)) b o $
-        -- [obs; the borrow; the reader's token; the other tokens; the last numbers; true; what the offered bytes own; _12; …; _0; …; true]
+        -- [obs; the borrow; the reader's token; the other tokens; the last numbers; true; what the offered bytes own;
+        -- _12; …; _0; …; true]
         returns ! (look ! 31 refl) $ forget ! 7 refl $ forget ! 9 refl $ forget ! 11 refl $ forget ! 13 refl $ forget ! 15 refl $ forget ! 17 refl $ forget ! 19 refl $ forget ! 21 refl $ forget ! 23 refl $ forget ! 25 refl $ forget ! 27 refl $ forget ! 29 refl $ forget ! 31 refl $
         move ! (31 ∷ 32 ∷ []) $ free1 ! $ move ! (29 ∷ 30 ∷ []) $ free1 ! $ move ! (27 ∷ 28 ∷ []) $ free1 ! $ move ! (25 ∷ 26 ∷ []) $ free1 ! $ move ! (23 ∷ 24 ∷ []) $ free1 ! $ move ! (21 ∷ 22 ∷ []) $ free1 ! $ move ! (19 ∷ 20 ∷ []) $ free1 ! $
         move ! (17 ∷ 18 ∷ []) $ free1 ! $ move ! (15 ∷ 16 ∷ []) $ free1 ! $ move ! (13 ∷ 14 ∷ []) $ free1 ! $ move ! (11 ∷ 12 ∷ []) $ free1 ! $ move ! (9 ∷ 10 ∷ []) $ free1 ! $ move ! (7 ∷ 8 ∷ []) $ free1 ! $ free0 ! $

@@ -1,5 +1,8 @@
--- `amp::amp_fresh` meets its contract: a walk of its MIR, by hand. The borrow is opened, the reader is copied out and passed to `freshened` with the family, the reader that comes back is stored over the old one, and the borrow is closed at it.
--- All that the proof knows of `freshened` is that it meets its contract. A reader and a number own only facts, so what the callee is passed is not missed, and of the two parts of its result the relation makes what is owned.
+-- `amp::amp_fresh` meets its contract: a walk of its MIR, by hand. The borrow is opened, the reader is copied out and
+-- passed to `freshened` with the family, the reader that comes back is stored over the old one, and the borrow is
+-- closed at it. All that the proof knows of `freshened` is that it meets its contract. A reader and a number own only
+-- facts, so what the callee is passed is not missed, and of the two parts of its result the relation makes what is
+-- owned.
 -- Assumes nothing.
 use mathlib.Core.Path.{refl, ap}
 use Prim.Native.Nat.{ℕ, _<_, _^_}
@@ -100,7 +103,8 @@ module _ {M : Type 1} (𝓤 : URA M) (H : Heap 𝓤) (A : Atoms 𝓤) (W : Given
         enter ! C Λ code.function (vptr b o ∷ vint w32 n ∷ []) _ $
         alloc1 ! (λ l₀. alloc1 ! (λ l₁. alloc1 ! (λ l₂. alloc1 ! (λ l₃. alloc1 ! (λ l₄. alloc0 ! $ params1 ! $ pass1 ! (init ! 6 refl (tt, tt)) $ pass1 ! (init ! 4 refl (tt, record { fits = fits })) $ pass0 ! $
         move ! (10 ∷ 11 ∷ 12 ∷ []) $ opens-reader ! tt h b o (λ was.
-        -- [the reader's cell; what it owns; the open borrow; obs; auth; room for _4; …; room for _3; …; _2; …; _1; …; room for _0; …]
+        -- [the reader's cell; what it owns; the open borrow; obs; auth; room for _4; …; room for _3; …; _2; …; _1; …;
+        -- room for _0; …]
         assigns ! (of-opd ! (load ! (from ! (hop ! (look ! 11 refl) (stop !))) (look-raw ! 0 refl))) (from ! (stop !)) (init ! 7 refl (reader-typed 𝓤 H A W h was)) $
         move ! (1 ∷ []) $ use1 W (raw (Freshened 𝓤 H A at-mem run .pre to)) asked $
         calls-at ! fm (Freshened 𝓤 H A at-mem run) known to (and-then ! (load ! (from ! (stop !)) (look ! 7 refl)) (and-then ! (load ! (from ! (stop !)) (look ! 9 refl)) (no-more !))) (λ u.

@@ -18,14 +18,14 @@ find-requires c κs = search needs
 returns : tie.Need-returns
 returns c =
     let found = c .before .find .ensures ∙ next-byte _ _ (c .before .before .family-byte .ensures) _ _ _ in record {
-      sizes = ap (λ (s : Span). s .size) found;
+      lengths = ap (λ (s : Span). s .length) found;
       starts = rw (ne-eqb _ _ (c .if1 .taken)) (ap (λ (s : Span). s .start) found);
     }
 
 returns-2 : tie.Need-returns-2
 returns-2 c =
     let found = c .before .find .ensures ∙ next-byte _ _ (c .before .before .family-byte .ensures) _ _ _ in record {
-      sizes = ap (λ (s : Span). s .size) found;
+      lengths = ap (λ (s : Span). s .length) found;
       starts = rw (eq-eqb _ _ (c .if1 .left));
     }
 

@@ -1,5 +1,5 @@
--- `held_bytes::block_of` meets its contract. The loop's invariant: the first i bytes are copied in from the front on. The measure is what is
--- left of the sixteen.
+-- `held_bytes::block_of` meets its contract. The loop's invariant: the first i bytes are copied in from the front on.
+-- The measure is what is left of the sixteen.
 -- Assumes nothing.
 use Prim.Native.Nat.{ℕ, _+_, _-_, _≤_, _<_}
 use mathlib.Core.Path.{_≡_, sym, ap, _∙_}

@@ -1,5 +1,5 @@
--- `held_bytes::is_clear` meets its contract. The loop's invariant: where nothing but zeros was seen, the bytes that were seen together are all
--- zero. The measure is what is left of the sixteen.
+-- `held_bytes::is_clear` meets its contract. The loop's invariant: where nothing but zeros was seen, the bytes that
+-- were seen together are all zero. The measure is what is left of the sixteen.
 -- Assumes nothing.
 use Prim.Native.Nat.{ℕ, _-_, _≤_, _<_}
 use mathlib.Core.Path.{_≡_}

@@ -1,5 +1,5 @@
--- `held_bytes::put_block` meets its contract. The loop's invariant: the first i bytes are copied in from `at` on. The measure is what is left
--- of the sixteen; all of them pasted are the bytes laid.
+-- `held_bytes::put_block` meets its contract. The loop's invariant: the first i bytes are copied in from `at` on. The
+-- measure is what is left of the sixteen; all of them pasted are the bytes laid.
 -- Assumes nothing.
 use Prim.Native.Nat.{ℕ, _+_, _-_, _≤_}
 use mathlib.Core.Path.{_≡_, sym, ap, _∙_}

@@ -1,5 +1,6 @@
--- `row_stream::feed_any` meets its contract: where the row was laid, the reader is the one that the call left. Else it is as it was: where
--- there was room for every row the call was refused, and left it so; and where there was not, its places were kept and are put back.
+-- `row_stream::feed_any` meets its contract: where the row was laid, the reader is the one that the call left. Else it
+-- is as it was: where there was room for every row the call was refused, and left it so; and where there was not, its
+-- places were kept and are put back.
 -- Assumes nothing.
 use mathlib.Core.Path.{_≡_, ap}
 use mathlib.Core.List.{List}

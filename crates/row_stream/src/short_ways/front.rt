@@ -11,6 +11,7 @@ use rules::REPORT_LENGTH;
 use spe::is_command;
 use starts::bytes_needed;
 use stream_rules::PLACES;
+ghost use Rattle.rules.specs.Answers.{replies, commands};
 ghost use Rattle.row_stream.specs.Short.{HasRoom, FrontLent};
 
 // Hands out the good acknowledgement or report at the front of many bytes that are offered to a reader that holds
@@ -24,7 +25,7 @@ fn front_reply(
     numbers: &mut [i64],
 ) -> usize
     requires { ⌜ HasRoom (now held) (now numbers) ⌝ }
-    ensures { λ n. ⌜ FrontLent 1 at skipped held offered numbers n ⌝ }
+    ensures { λ n. ⌜ FrontLent replies at skipped held offered numbers n ⌝ }
 {
     if offered.len() < REPORT_LENGTH {
         return 0;
@@ -49,7 +50,7 @@ fn front_command(
     numbers: &mut [i64],
 ) -> usize
     requires { ⌜ HasRoom (now held) (now numbers) ⌝ }
-    ensures { λ n. ⌜ FrontLent 3 at skipped held offered numbers n ⌝ }
+    ensures { λ n. ⌜ FrontLent commands at skipped held offered numbers n ⌝ }
 {
     if offered.len() < PACKET_LENGTH {
         return 0;

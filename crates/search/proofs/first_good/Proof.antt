@@ -119,11 +119,11 @@ not-here : (c : tie.Joined2 Inv-loop μ-loop)
 not-here c =
     let k = c .before .before .before in
     let found = k .loop .inv .1 in
-    let size = stop k .length in
+    let n = stop k .length in
     ⊎-elim
     (λ w.
     let read = ap (readOne (family k)) (sym (lent k)) ∙ sym (w .2 .ensures .answers) in
-    bad-not-good (found .whole (w .0 .taken) .0 ∙ ap (headOf size) (read ∙ w .4 .given .1)))
+    bad-not-good (found .whole (w .0 .taken) .0 ∙ ap (headOf n) (read ∙ w .4 .given .1)))
     (λ w. wait-not-good (found .waits (w .left) (omega arith)))
     (c .if2 .came)
 

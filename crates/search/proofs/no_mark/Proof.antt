@@ -1,5 +1,5 @@
--- `search::no_mark` meets its contract. The loop's invariant: where none is found so far, the bytes before i are no marks. The measure is
--- what is left of 16.
+-- `search::no_mark` meets its contract. The loop's invariant: where none is found so far, the bytes before i are no
+-- marks. The measure is what is left of 16.
 -- Assumes nothing.
 use Prim.Native.Nat.{ℕ, _+_, _-_, _≤_}
 use mathlib.Core.Path.{_≡_, ap, _∙_}

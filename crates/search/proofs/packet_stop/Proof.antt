@@ -12,8 +12,8 @@ use lib.ListN.{length, take, drop, getD, length-drop}
 use Rattle.rules.specs.Answers.{isGood, readOne}
 use Rattle.stream_rules.specs.Heads.{isSpe, shortestFrame, markOf}
 use Rattle.stream_laws.proofs.Lists.{whole-rest}
-use Rattle.starts.specs.Seen.{seen}
-use Rattle.starts.proofs.Seeing.{seen-whole, seen-bad, seen-undecided, bad-soon, whole-size}
+use Rattle.search.specs.Seen.{seen}
+use Rattle.search.proofs.Seeing.{seen-whole, seen-bad, seen-undecided, bad-soon, whole-length}
 use Rattle.search.specs.Sought.{Walks}
 use Rattle.search.proofs.Passing.{SettledBy, BadBy, mark-is-no-count, behind-no-mark}
 use Rattle.search.proofs.Soon.{not-good}
@@ -79,7 +79,7 @@ marked-turn c = c .before .before .before .before
 abbrev turn : tie.Else1 Inv-loop μ-loop → tie.At-loop Inv-loop μ-loop
 turn c = c .before .before .before .before
 
-abbrev seen-turn : tie.After-examine Inv-loop μ-loop → tie.At-loop Inv-loop μ-loop
+abbrev seen-turn : tie.After-examine-packet Inv-loop μ-loop → tie.At-loop Inv-loop μ-loop
 seen-turn c = turn (c .before .before)
 
 -- a mark for the count: a bad start
@@ -101,31 +101,31 @@ behind c there =
     behind-no-mark (family k) (spe k) (here k) long (λ e. other (e ∙ sym (is-mark k)))
 
 -- what was seen at the start
-saw : (c : tie.After-examine Inv-loop μ-loop) → c .examine .result ≡ seen (family (seen-turn c)) (here (seen-turn c))
-saw c = c .examine .ensures ∙ ap (seen _) (lent (seen-turn c))
+saw : (c : tie.After-examine-packet Inv-loop μ-loop) → c .examine-packet .result ≡ seen (family (seen-turn c)) (here (seen-turn c))
+saw c = c .examine-packet .ensures ∙ ap (seen _) (lent (seen-turn c))
 
 -- As many bytes as a frame there has:
 module _ (c : tie.After-known-told Inv-loop μ-loop) where
-  abbrev examined : tie.After-examine Inv-loop μ-loop
+  abbrev examined : tie.After-examine-packet Inv-loop μ-loop
   examined = c .before .before .before
 
   abbrev whole-turn : tie.At-loop Inv-loop μ-loop
   whole-turn = seen-turn examined
 
-  abbrev size : ℕ
-  size = c .before .length .given .0 .0
+  abbrev declared : ℕ
+  declared = c .before .length .given .0 .0
 
-  to-read : WholeAt (family whole-turn) (bytes whole-turn) (at whole-turn) size
-  to-read = seen-whole (family whole-turn) (here whole-turn) size (sym (saw examined) ∙ c .before .length .given .1)
+  to-read : WholeAt (family whole-turn) (bytes whole-turn) (at whole-turn) declared
+  to-read = seen-whole (family whole-turn) (here whole-turn) declared (sym (saw examined) ∙ c .before .length .given .1)
 
-  enough : size ≤ length (bytes whole-turn) - at whole-turn
-  enough = whole-there (family whole-turn) (bytes whole-turn) (at whole-turn) size to-read .1
+  enough : declared ≤ length (bytes whole-turn) - at whole-turn
+  enough = whole-there (family whole-turn) (bytes whole-turn) (at whole-turn) declared to-read .1
 
-  six : 6 ≤ size
+  six : 6 ≤ declared
   six =
       let k = whole-turn in
-      let some = whole-there (family k) (bytes k) (at k) size to-read .0 in
-      whole-size (family k) (spe k) (here k) size some (sym (saw examined) ∙ c .before .length .given .1)
+      let some = whole-there (family k) (bytes k) (at k) declared to-read .0 in
+      whole-length (family k) (spe k) (here k) declared some (sym (saw examined) ∙ c .before .length .given .1)
 
   four : 4 ≤ length (bytes whole-turn) - at whole-turn
   four = omega (arith, six, enough)
@@ -133,11 +133,11 @@ module _ (c : tie.After-known-told Inv-loop μ-loop) where
 -- of which it was said that they are no good frame.
 refused : (c : tie.Else2 Inv-loop μ-loop)
     → let k : tie.After-known-told Inv-loop μ-loop = c .before .before .before in
-    SettledBy (family (whole-turn k)) (here (whole-turn k)) (size k)
+    SettledBy (family (whole-turn k)) (here (whole-turn k)) (declared k)
 refused c =
     let told = c .before .before .before in
     let k = whole-turn told in
-    let n = size told in
+    let n = declared told in
     let no-good : List ℕ → Type 0 = λ l. isGood (readOne (family k) l) ≡ false in
     let out = c .before .ruled-out .ensures (not-false (c .before .ruled-out .result) (c .if2 .left)) in
     let read = readOne (family k) (take n (here k)) in
@@ -213,17 +213,17 @@ loop-again c =
     let bad-here = marked c in
     over (marked-turn c) 1 (omega arith) (bad-here .0, omega (arith, bad-here .1)) (λ j p q. absurd (omega arith))
 
-sub-examine : tie.Need-sub-examine Inv-loop μ-loop
-sub-examine c = omega arith
+sub-examine-packet : tie.Need-sub-examine-packet Inv-loop μ-loop
+sub-examine-packet c = omega arith
 
-part-examine-start : tie.Need-part-examine-start Inv-loop μ-loop
-part-examine-start c = omega arith
+part-examine-packet-start : tie.Need-part-examine-packet-start Inv-loop μ-loop
+part-examine-packet-start c = omega arith
 
-part-examine-end : tie.Need-part-examine-end Inv-loop μ-loop
-part-examine-end c = omega arith
+part-examine-packet-end : tie.Need-part-examine-packet-end Inv-loop μ-loop
+part-examine-packet-end c = omega arith
 
-examine-requires : tie.Need-examine-requires Inv-loop μ-loop
-examine-requires c κs = search needs
+examine-packet-requires : tie.Need-examine-packet-requires Inv-loop μ-loop
+examine-packet-requires c κs = search needs
 
 enum-known-length : tie.Need-enum-known-length Inv-loop μ-loop
 enum-known-length c = search needs
@@ -247,7 +247,7 @@ returns : tie.Need-returns Inv-loop μ-loop
 returns c =
     let told = c .before .before .before in
     let k = whole-turn told in
-    stops-to-read (family k) (bytes k) (from k) (far k) (at k) (reach k) (size told) (k .loop .inv) (to-read told)
+    stops-to-read (family k) (bytes k) (from k) (far k) (at k) (reach k) (declared told) (k .loop .inv) (to-read told)
 
 add-further : tie.Need-add-further Inv-loop μ-loop
 add-further c = omega (arith, enough (c .before .before .before))
@@ -266,7 +266,7 @@ loop-again-2 c =
     let told = c .before .before .before .before in
     let k = whole-turn told in
     let long = four told in
-    counts-and-passes (family k) (bytes k) (from k) (far k) (at k) (reach k) (c .further .result) (size told) 3 (k .loop .inv)
+    counts-and-passes (family k) (bytes k) (from k) (far k) (at k) (reach k) (c .further .result) (declared told) 3 (k .loop .inv)
     (omega (arith, long))
     (refused (c .before))
     (c .further .ensures)
@@ -327,10 +327,10 @@ packet-stop-spec =
     add-at
     loop-less
     loop-again
-    sub-examine
-    part-examine-start
-    part-examine-end
-    examine-requires
+    sub-examine-packet
+    part-examine-packet-start
+    part-examine-packet-end
+    examine-packet-requires
     enum-known-length
     add-ruled-out
     sub-ruled-out

@@ -1,5 +1,5 @@
--- `search::past_unmarked` meets its contract. The loop's invariant: from the place on, no byte passed is a mark. The measure is what is left of
--- the bytes.
+-- `search::past_unmarked` meets its contract. The loop's invariant: from the place on, no byte passed is a mark. The
+-- measure is what is left of the bytes.
 -- Assumes nothing.
 use Prim.Native.Nat.{ℕ, _+_, _-_, _≤_}
 use mathlib.Core.Path.{ap, _∙_}

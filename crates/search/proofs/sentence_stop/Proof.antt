@@ -1,5 +1,5 @@
--- `search::sentence_stop` meets its contract. The loop's invariant is the walk so far, in which nothing is counted: no start reaches
--- behind a later frame. The measure is what is left of the bytes.
+-- `search::sentence_stop` meets its contract. The loop's invariant is the walk so far, in which nothing is counted: no
+-- start reaches behind a later frame. The measure is what is left of the bytes.
 -- Assumes nothing.
 use Prim.Native.Nat.{ℕ, _+_, _-_, _≤_, _<_}
 use mathlib.Core.Path.{_≡_, sym, ap, _∙_}
@@ -13,8 +13,8 @@ use Rattle.rules.specs.Answers.{sentences}
 use Rattle.stream_rules.specs.Heads.{shortestFrame}
 use Rattle.stream_laws.proofs.Lists.{whole-rest}
 use Rattle.stream_laws.proofs.Runs.{run, run-inside}
-use Rattle.starts.specs.Seen.{seen}
-use Rattle.starts.proofs.Seeing.{seen-whole, seen-bad, seen-undecided, bad-behind}
+use Rattle.search.specs.Seen.{seen}
+use Rattle.search.proofs.Seeing.{seen-whole, seen-bad, seen-undecided, bad-behind}
 use Rattle.search.specs.Sought.{Walks}
 use Rattle.search.proofs.Passing.{SettledBy, BadBy, not-dollar, in-the-run}
 use Rattle.search.proofs.Stopping.{begins, passes-over, stops-waiting, stops-at-end, stops-to-read}
@@ -53,12 +53,12 @@ module _ (k : tie.At-loop Inv-loop μ-loop) where
   over n = passes-over sentences bytes from far at far n (k .loop .inv)
 
 -- what was seen at the start
-module _ (c : tie.After-examine Inv-loop μ-loop) where
+module _ (c : tie.After-examine-sentence Inv-loop μ-loop) where
   abbrev turn : tie.At-loop Inv-loop μ-loop
   turn = c .before .before .before .before .before
 
-  saw : c .examine .result ≡ seen sentences (here turn)
-  saw = c .examine .ensures ∙ ap (seen sentences) (whole-rest (bytes turn) (at turn))
+  saw : c .examine-sentence .result ≡ seen sentences (here turn)
+  saw = c .examine-sentence .ensures ∙ ap (seen sentences) (whole-rest (bytes turn) (at turn))
 
 -- a bad start: the byte that settled it is behind the run, or in it
 record Broken (k : tie.At-loop Inv-loop μ-loop) (d : ℕ) : Type 0 where
@@ -68,7 +68,7 @@ record Broken (k : tie.At-loop Inv-loop μ-loop) (d : ℕ) : Type 0 where
   inside : run (here k) < length (bytes k) - at k
 
 module _ (c : tie.After-known-told2 Inv-loop μ-loop) where
-  abbrev examined : tie.After-examine Inv-loop μ-loop
+  abbrev examined : tie.After-examine-sentence Inv-loop μ-loop
   examined = c .before .before .before
 
   abbrev bad-turn : tie.At-loop Inv-loop μ-loop
@@ -109,17 +109,17 @@ loop-again c =
     let bad-here = not-dollar (bytes k) (at k) (omega arith) (c .if1 .taken) in
     over k 1 (omega arith) (bad-here .0, omega (arith, bad-here .1)) (λ j p q. absurd (omega arith))
 
-sub-examine : tie.Need-sub-examine Inv-loop μ-loop
-sub-examine c = omega arith
+sub-examine-sentence : tie.Need-sub-examine-sentence Inv-loop μ-loop
+sub-examine-sentence c = omega arith
 
-part-examine-start : tie.Need-part-examine-start Inv-loop μ-loop
-part-examine-start c = omega arith
+part-examine-sentence-start : tie.Need-part-examine-sentence-start Inv-loop μ-loop
+part-examine-sentence-start c = omega arith
 
-part-examine-end : tie.Need-part-examine-end Inv-loop μ-loop
-part-examine-end c = omega arith
+part-examine-sentence-end : tie.Need-part-examine-sentence-end Inv-loop μ-loop
+part-examine-sentence-end c = omega arith
 
-examine-requires : tie.Need-examine-requires Inv-loop μ-loop
-examine-requires c κs = search needs
+examine-sentence-requires : tie.Need-examine-sentence-requires Inv-loop μ-loop
+examine-sentence-requires c κs = search needs
 
 enum-known-length : tie.Need-enum-known-length Inv-loop μ-loop
 enum-known-length c = search needs
@@ -179,10 +179,10 @@ sentence-stop-spec =
     add-at
     loop-less
     loop-again
-    sub-examine
-    part-examine-start
-    part-examine-end
-    examine-requires
+    sub-examine-sentence
+    part-examine-sentence-start
+    part-examine-sentence-end
+    examine-sentence-requires
     enum-known-length
     returns
     enum-told

@@ -19,7 +19,7 @@ use Rattle.rules.proofs.Frame.{the-type}
 use Rattle.stream_rules.specs.Lister.{fits}
 use Rattle.search.proofs.Walk.{left, Next, next, no-next, at-end}
 use Rattle.captures.specs.declared.spans.Span.{Span}
-use Rattle.captures.specs.Finds.{isReport, spanOf, nothing, firstWanted, nextIn}
+use Rattle.captures.specs.Finds.{isReport, nothing, firstWanted, nextIn}
 use Rattle.captures.proofs.spans.find.Statement.{statement}
 use Rattle.captures.proofs.spans.find.Tie as tie
 
@@ -61,12 +61,12 @@ module _ (family : ℕ) (bs : List ℕ) (place : ℕ) (reports : Bool) where
   unfolding firstWanted
   none-left at inv e = sym (inv ∙ ap (firstWanted reports place) e)
 
-  module _ (at start size : ℕ) (f : Frame) (inv : nextIn family bs place reports ≡ firstWanted reports place (left family bs at)) (n : Next family bs at start size f) where
+  module _ (at start long : ℕ) (f : Frame) (inv : nextIn family bs place reports ≡ firstWanted reports place (left family bs at)) (n : Next family bs at start long f) where
     abbrev on : Span
-    on = firstWanted reports place (left family bs (start + size))
+    on = firstWanted reports place (left family bs (start + long))
 
     abbrev it : Span
-    it = record { start = start; size = size; behind = start + size }
+    it = record { start = start; length = long; behind = start + long }
 
     opened : nextIn family bs place reports ≡ cond (not reports || isReport (kindOf f)) it on
     unfolding firstWanted

@@ -1,7 +1,7 @@
--- `captures::spans::next_frame` meets its contract: the part is that of the span which `find` gives where any frame is wanted, and this is what the
--- lister's second entry gives.
+-- `captures::spans::next_frame` meets its contract: the part is that of the span which `find` gives where any frame is
+-- wanted, and this is what the lister's second entry gives.
 -- Assumes nothing.
-use mathlib.Core.Path.{_≡_, sym, ap, subst, _∙_}
+use mathlib.Core.Path.{_≡_, sym, subst, _∙_}
 use mathlib.Core.Bool.{false}
 use mathlib.Core.List.{List}
 use Prim.Native.Nat.{ℕ}

@@ -1,5 +1,9 @@
--- `captures::walks::next` meets its contract: a walk of its MIR, by hand. The borrow of the reader is opened, `find` is called on the slice and the place that the reader holds, the place behind the span is stored beside the slice, and the borrow is closed at the reader with that place. Then `text` is called on the slice and the span, and what it returns is handed back.
--- A `CaptureReader` is Copy: what it owns is had twice. One copy goes back into the borrow, with the facts of the new place. Of the other what the slice owns is taken, once for each call, beside the token of 'a, which comes back. All that the proof knows of `find` and of `text` is that each meets its contract.
+-- `captures::walks::next` meets its contract: a walk of its MIR, by hand. The borrow of the reader is opened, `find` is
+-- called on the slice and the place that the reader holds, the place behind the span is stored beside the slice, and
+-- the borrow is closed at the reader with that place. Then `text` is called on the slice and the span, and what it
+-- returns is handed back. A `CaptureReader` is Copy: what it owns is had twice. One copy goes back into the borrow,
+-- with the facts of the new place. Of the other what the slice owns is taken, once for each call, beside the token of
+-- 'a, which comes back. All that the proof knows of `find` and of `text` is that each meets its contract.
 -- Assumes nothing.
 use mathlib.Core.Path.{_≡_, refl, ap}
 use Prim.Native.Nat.{ℕ, _<_, _^_}
@@ -150,18 +154,18 @@ module _ {M : Type 1} (𝓤 : URA M) (H : Heap 𝓤) (A : Atoms 𝓤) (W : Given
 
   -- the call of `text`, at the span s
   abbrev passed-text : Span → Vals text.signature (κ′, tt)
-  passed-text s = (v ∷ [], (vint w64 (s .start) ∷ [], (vint w64 (s .size) ∷ [], tt)))
+  passed-text s = (v ∷ [], (vint w64 (s .start) ∷ [], (vint w64 (s .length) ∷ [], tt)))
 
   abbrev to-text : Span → Text 𝓤 H A at-mem run .Ghost
-  to-text s = (((κ′, tt), (q′, tt), tt, (capture, (s .start, (s .size, tt))), passed-text s), tt)
+  to-text s = (((κ′, tt), (q′, tt), tt, (capture, (s .start, (s .length, tt))), passed-text s), tt)
 
-  goes-text : (s : Span) → s .start < 2 ^ 64 → s .size < 2 ^ 64 → ent 𝓤 (⋆ 𝓤 H A (‵ Lent ∷ (‵ (flft κ′ q′) ⊛ ‵ ftrue) ∷ [])) (Text 𝓤 H A at-mem run .pre (to-text s))
-  goes-text s start-fits size-fits =
-      qed W (‵ Lent ∷ (‵ (flft κ′ q′) ⊛ ‵ ftrue) ∷ []) ∵ nothing ! $ owned ! usize (Is usize) (uint-makes 𝓤 H A W w64) (s .size) _ (refl, size-fits) $ fjoin ! $ owned ! usize (Is usize) (uint-makes 𝓤 H A W w64) (s .start) _ (refl, start-fits) $ fjoin ! $
+  goes-text : (s : Span) → s .start < 2 ^ 64 → s .length < 2 ^ 64 → ent 𝓤 (⋆ 𝓤 H A (‵ Lent ∷ (‵ (flft κ′ q′) ⊛ ‵ ftrue) ∷ [])) (Text 𝓤 H A at-mem run .pre (to-text s))
+  goes-text s start-fits length-fits =
+      qed W (‵ Lent ∷ (‵ (flft κ′ q′) ⊛ ‵ ftrue) ∷ []) ∵ nothing ! $ owned ! usize (Is usize) (uint-makes 𝓤 H A W w64) (s .length) _ (refl, length-fits) $ fjoin ! $ owned ! usize (Is usize) (uint-makes 𝓤 H A W w64) (s .start) _ (refl, start-fits) $ fjoin ! $
       move ! (1 ∷ 0 ∷ []) $ fjoin ! $ move ! (1 ∷ 0 ∷ []) $ join ! $ frame ! $ done !
 
-  text-said : (s : Span) (r : RefT (List ℕ)) → ent 𝓤 (ensured 𝓤 H A text.ended (text.clauses 𝓤 H A at-mem run) (κ′, tt) (capture, (s .start, (s .size, tt))) tt r) (fact 𝓤 (TextOf capture s r))
-  text-said s r = exE 𝓤 _ (λ ws. snd∗ 𝓤 (sem 𝓤 H A (lasts text.ended (κ′, tt) (capture, (s .start, (s .size, tt))) ws)) (fact 𝓤 (TextOf capture s r)))
+  text-said : (s : Span) (r : RefT (List ℕ)) → ent 𝓤 (ensured 𝓤 H A text.ended (text.clauses 𝓤 H A at-mem run) (κ′, tt) (capture, (s .start, (s .length, tt))) tt r) (fact 𝓤 (TextOf capture s r))
+  text-said s r = exE 𝓤 _ (λ ws. snd∗ 𝓤 (sem 𝓤 H A (lasts text.ended (κ′, tt) (capture, (s .start, (s .length, tt))) ws)) (fact 𝓤 (TextOf capture s r)))
 
   -- what the slice owns is kept, and the place's facts are made anew
   again : (s : Span) → s .behind < 2 ^ 64 → ent 𝓤 (sem 𝓤 H A Own) (sem 𝓤 H A (B κ′ .own (moved h s) (T′.lowered (moved h s) ∷ [])))
@@ -185,8 +189,8 @@ module _ {M : Type 1} (𝓤 : URA M) (H : Heap 𝓤) (A : Atoms 𝓤) (W : Given
     start-fits : s .start < 2 ^ 64
     start-fits = LL.owed S.the-type S′.the-laws s _ is .0 .1
 
-    size-fits : s .size < 2 ^ 64
-    size-fits = LL.owed S.the-type S′.the-laws s _ is .1 .0 .1
+    length-fits : s .length < 2 ^ 64
+    length-fits = LL.owed S.the-type S′.the-laws s _ is .1 .0 .1
 
     behind-fits : s .behind < 2 ^ 64
     behind-fits = LL.owed S.the-type S′.the-laws s _ is .1 .1 .0 .1
@@ -208,29 +212,34 @@ module _ {M : Type 1} (𝓤 : URA M) (H : Heap 𝓤) (A : Atoms 𝓤) (W : Given
         opens ! tt (B κ′) {h = h} b o (λ vs. spelt ! (B κ′) (Is (B κ′)) (shows 𝓤 H A (B κ′)) (LL.vals D L) (LL.tells D L) fullShare h vs b o $
         use1 W (‵ (fat fullShare (T′.mir erased) b o (T′.lowered h))) (W .laws .raw-at fullShare (T′.mir erased) b o (T′.lowered h)) $
         move ! (1 ∷ []) $ peeks ! (B κ′) (Is (B κ′)) (shows 𝓤 H A (B κ′)) h (T′.lowered h ∷ []) (λ was. move ! (1 ∷ 0 ∷ []) $
-        -- [the reader's cell; what the reader owns; the open borrow; obs; auth; 'a's token; family's and reports'; _6; …; _5; …; _4; …; _3; …; _2; …; _1; …; room for _0; …]
+        -- [the reader's cell; what the reader owns; the open borrow; obs; auth; 'a's token; family's and reports'; _6;
+        -- …; _5; …; _4; …; _3; …; _2; …; _1; …; room for _0; …]
         assigns ! (of-opd ! (load ! (from ! (hop ! (look ! 17 refl) (fld ! refl (stop !)))) (look-in ! 0 (sub ! 0 refl (whole !))))) (from ! (stop !)) (init ! 11 refl (tt, LL.lawful (T.the-type αᵉ) (T′.the-laws αᵉ) 𝓤 H A W .typed h _ was .0 .1 .0)) $
         assigns ! (of-opd ! (load ! (from ! (hop ! (look ! 17 refl) (fld ! refl (stop !)))) (look-in ! 0 (sub ! 1 refl (whole !))))) (from ! (stop !)) (init ! 9 refl (tt, record { fits = place-fits was })) $
         move ! (1 ∷ []) $ use1 W (‵ Own ⊛ (‵ Lent ⊛ ‵ Lent)) apart $ split ! $ move ! (1 ∷ []) $ split ! $ move ! (0 ∷ 7 ∷ []) $ use2 W (raw (Find 𝓤 H A at-mem run .pre to-find)) (goes-find (place-fits was)) $
-        -- [what `find` asks; what the slice owns; what the reader owns; the reader's cell; the open borrow; obs; auth; family's and reports'; _6; …; _5; …; _4; …; _3; …; _2; …; _1; …; room for _0; …]
+        -- [what `find` asks; what the slice owns; what the reader owns; the reader's cell; the open borrow; obs; auth;
+        -- family's and reports'; _6; …; _5; …; _4; …; _3; …; _2; …; _1; …; room for _0; …]
         calls-at ! fm (Find 𝓤 H A at-mem run) known-find to-find (and-then ! (load ! (from ! (stop !)) (look ! 16 refl)) (and-then ! (load ! (from ! (stop !)) (look ! 12 refl)) (and-then ! (load ! (from ! (stop !)) (look ! 10 refl)) (and-then ! (load ! (from ! (stop !)) (look ! 14 refl)) (no-more !))))) (λ u.
         use1 W (later (some (λ (s : Span). ((‵ (flft κ′ q′) ⊛ ‵ ftrue) ⊛ ‵ (S.the-row .own s (u ∷ []))) ⊛ raw (ensured 𝓤 H A find.ended (find.clauses 𝓤 H A at-mem run) (κ′, tt) (family, (capture, (h .place, (reports, tt)))) tt s)))) (id⊢ 𝓤 _) $ await ! tt $ pick ! (λ s.
         split ! $ move ! (1 ∷ []) $ use1 W (raw (fact 𝓤 (s ≡ found))) (find-said s) $ heard ! (s ≡ found) (λ e. split ! $ move ! (1 ∷ []) $
         peeks ! S.the-row (Is S.the-row) (shows 𝓤 H A S.the-row) s (u ∷ []) (λ is.
-        -- [what the span owns; the token; what the slice owns; what the reader owns; the reader's cell; the open borrow; obs; auth; family's and reports'; _6; …]
+        -- [what the span owns; the token; what the slice owns; what the reader owns; the reader's cell; the open
+        -- borrow; obs; auth; family's and reports'; _6; …]
         land ! (from ! (stop !)) (init ! 9 refl (LL.lawful S.the-type S′.the-laws 𝓤 H A W .typed s _ is .0)) $ rewrite ! 9 (λ (w : Val). ‵ (fat fullShare S′.mir l₆ 0 w)) (spelled s u is) refl $
         -- the place behind the span is stored, and the borrow is closed
         assigns ! (of-opd ! (load ! (from ! (fld ! refl (stop !))) (look-in ! 9 (sub ! 2 refl (whole !))))) (from ! (hop ! (look ! 19 refl) (fld ! refl (stop !)))) (store-in ! 4 (sub ! 1 refl (whole !)) (tt, record { fits = behind-fits s u is })) $
         move ! (3 ∷ []) $ use1 W (‵ (B κ′ .own (moved h s) (T′.lowered (moved h s) ∷ []))) (again s (behind-fits s u is)) $
         move ! (4 ∷ []) $ use1 W (‵ (cellAt fullShare (B κ′ .mir) (T′.lowered (moved h s) ∷ []) b o)) (W .laws .at-raw fullShare (T′.mir erased) b o (T′.lowered (moved h s))) $ move ! (0 ∷ 1 ∷ 5 ∷ 6 ∷ 7 ∷ []) $ closes ! tt (B κ′) (moved h s) (T′.lowered (moved h s) ∷ []) b o $
         -- [obs; the borrow; 's's token; what the span owns; 'a's token; what the slice owns; family's and reports'; _6; …]
-        move ! (5 ∷ 4 ∷ []) $ use2 W (raw (Text 𝓤 H A at-mem run .pre (to-text s))) (goes-text s (start-fits s u is) (size-fits s u is)) $
-        -- [what `text` asks; obs; the borrow; 's's token; what the span owns; family's and reports'; _6; …; _5; …; _4; …; _3; …; _2; …; _1; …; room for _0; …]
+        move ! (5 ∷ 4 ∷ []) $ use2 W (raw (Text 𝓤 H A at-mem run .pre (to-text s))) (goes-text s (start-fits s u is) (length-fits s u is)) $
+        -- [what `text` asks; obs; the borrow; 's's token; what the span owns; family's and reports'; _6; …; _5; …; _4;
+        -- …; _3; …; _2; …; _1; …; room for _0; …]
         calls-at ! fm (Text 𝓤 H A at-mem run) known-text (to-text s) (and-then ! (load ! (from ! (stop !)) (look ! 10 refl)) (and-then ! (load ! (from ! (fld ! refl (stop !))) (look-in ! 6 (sub ! 0 refl (whole !)))) (and-then ! (load ! (from ! (fld ! refl (stop !))) (look-in ! 6 (sub ! 1 refl (whole !)))) (no-more !)))) (λ u′.
-        use1 W (later (some (λ (r : RefT (List ℕ)). ((‵ (flft κ′ q′) ⊛ ‵ ftrue) ⊛ ‵ (ShrSlice (named 0) κ′ u8 .own r (u′ ∷ []))) ⊛ raw (ensured 𝓤 H A text.ended (text.clauses 𝓤 H A at-mem run) (κ′, tt) (capture, (s .start, (s .size, tt))) tt r)))) (id⊢ 𝓤 _) $ await ! tt $ pick ! (λ r.
+        use1 W (later (some (λ (r : RefT (List ℕ)). ((‵ (flft κ′ q′) ⊛ ‵ ftrue) ⊛ ‵ (ShrSlice (named 0) κ′ u8 .own r (u′ ∷ []))) ⊛ raw (ensured 𝓤 H A text.ended (text.clauses 𝓤 H A at-mem run) (κ′, tt) (capture, (s .start, (s .length, tt))) tt r)))) (id⊢ 𝓤 _) $ await ! tt $ pick ! (λ r.
         split ! $ move ! (1 ∷ []) $ use1 W (raw (fact 𝓤 (TextOf capture s r))) (text-said s r) $ heard ! (TextOf capture s r) (λ p. split ! $ move ! (1 ∷ []) $
         peeks ! (ShrSlice (named 0) κ′ u8) (Is (ShrSlice (named 0) κ′ u8)) (shows 𝓤 H A (ShrSlice (named 0) κ′ u8)) r (u′ ∷ []) (λ is′.
-        -- [what the result owns; 'a's token; obs; the borrow; 's's token; what the span owns; family's and reports'; _6; …; _5; …; _4; …; _3; …; _2; …; _1; …; room for _0; …]
+        -- [what the result owns; 'a's token; obs; the borrow; 's's token; what the span owns; family's and reports';
+        -- _6; …; _5; …; _4; …; _3; …; _2; …; _1; …; room for _0; …]
         land ! (from ! (stop !)) (init ! 19 refl (shr-slice-lawful 𝓤 H A W (named 1) κ′ u8 .typed r _ is′ .0)) $
         returns ! (look ! 19 refl) $ forget ! 7 refl $ forget ! 9 refl $ forget ! 11 refl $ forget ! 13 refl $ forget ! 15 refl $ forget ! 17 refl $ forget ! 19 refl $
         move ! (19 ∷ 20 ∷ []) $ free1 ! $ move ! (17 ∷ 18 ∷ []) $ free1 ! $ move ! (15 ∷ 16 ∷ []) $ free1 ! $ move ! (13 ∷ 14 ∷ []) $ free1 ! $ move ! (11 ∷ 12 ∷ []) $ free1 ! $ move ! (9 ∷ 10 ∷ []) $ free1 ! $ move ! (7 ∷ 8 ∷ []) $ free1 ! $ free0 ! $

@@ -1,7 +1,11 @@
--- `captures::walks::next_at` meets its contract: a walk of its MIR, by hand. The reader that `reader_at` makes is held in a local, the local is lent to `next` by `&mut` for a lifetime that is made for the call, and it comes back at the reader that `next` leaves; the place that it has reached is stored behind the `&mut usize` that the caller lent, and the part is handed back.
--- All that the proof knows of `reader_at` and of `next` is that each meets its contract.
--- `next` asks that the capture's lifetime outlive the loan's. So the loan's is the meet of a new lifetime with the capture's: its token is made of a part of the new one's and of half of the capture's (`tok-make`), and after the call both are had whole again (`tok-back`).
--- The caller's `&mut usize` is opened before its number is read, and closed once the new number is stored.
+-- `captures::walks::next_at` meets its contract: a walk of its MIR, by hand. The reader that `reader_at` makes is held
+-- in a local, the local is lent to `next` by `&mut` for a lifetime that is made for the call, and it comes back at the
+-- reader that `next` leaves; the place that it has reached is stored behind the `&mut usize` that the caller lent, and
+-- the part is handed back. All that the proof knows of `reader_at` and of `next` is that each meets its contract.
+-- `next` asks that the capture's lifetime outlive the loan's. So the loan's is the meet of a new lifetime with the
+-- capture's: its token is made of a part of the new one's and of half of the capture's (`tok-make`), and after the call
+-- both are had whole again (`tok-back`). The caller's `&mut usize` is opened before its number is read, and closed once
+-- the new number is stored.
 -- Assumes nothing.
 use mathlib.Core.Path.{_≡_, refl}
 use Prim.Native.Nat.{ℕ, _<_, _^_}
@@ -198,7 +202,8 @@ module _ {M : Type 1} (𝓤 : URA M) (H : Heap 𝓤) (A : Atoms 𝓤) (W : Given
         -- the caller's `&mut usize` is opened
         move ! (21 ∷ []) $ fsplit ! $ move ! (1 ∷ []) $ fsplit ! $ fsplit3 ! $ drop ! $ move ! (24 ∷ []) $ split ! $ move ! (1 ∷ []) $ split ! $ move ! (1 ∷ []) $ drop ! $ move ! (2 ∷ 3 ∷ 0 ∷ 1 ∷ 5 ∷ []) $
         opens ! tt usize {h = n} b o (λ vs. tied ! fullShare (usize .mir) vs b o $ move ! (1 ∷ []) $ fltL ! (λ n-fits.
-        -- [the number's cell; the open borrow; obs; auth; the capture's token; what capture owns; what family and reports own; _9; …; _8; …; _7; …; _6; …; _5; …; _4; …; _3; …; _2; …; _1; …; room for _0; …]
+        -- [the number's cell; the open borrow; obs; auth; the capture's token; what capture owns; what family and
+        -- reports own; _9; …; _8; …; _7; …; _6; …; _5; …; _4; …; _3; …; _2; …; _1; …; room for _0; …]
         assigns ! (of-opd ! (load ! (from ! (hop ! (look ! 21 refl) (stop !))) (look ! 0 refl))) (from ! (stop !)) (init ! 9 refl (tt, record { fits = n-fits })) $
         -- `reader_at`
         move ! (5 ∷ 4 ∷ []) $ use2 W (raw (ReaderAt 𝓤 H A mem″ run .pre to-reader-at) ⊛ ‵ Own) (goes-reader-at n-fits) $ split ! $
@@ -207,7 +212,8 @@ module _ {M : Type 1} (𝓤 : URA M) (H : Heap 𝓤) (A : Atoms 𝓤) (W : Given
         split ! $ move ! (1 ∷ []) $ use1 W (raw (fact 𝓤 ((r₀ .capture ≡ s) × (r₀ .place ≡ n)))) (reader-at-said r₀) $ heard ! ((r₀ .capture ≡ s) × (r₀ .place ≡ n)) (λ e.
         split ! $ rewrite ! 1 (λ (h : CaptureReader). ‵ (R κ .own h (u ∷ []))) (λ i. record { capture = e .0 i; place = e .1 i }) refl $
         split ! $ move ! (1 ∷ []) $ drop ! $ move ! (1 ∷ []) $ peeks ! (R κ) (Is (R κ)) (shows 𝓤 H A (R κ)) h₀ (u ∷ []) (λ is.
-        -- [what the reader owns; the capture's token; what capture owns; the number's cell; the open borrow; obs; auth; what family and reports own; _9; …; _8; …; and so on]
+        -- [what the reader owns; the capture's token; what capture owns; the number's cell; the open borrow; obs; auth;
+        -- what family and reports own; _9; …; _8; …; and so on]
         land ! (from ! (stop !)) (init ! 12 refl (LL.lawful (T.the-type αᵉ) (T′.the-laws αᵉ) 𝓤 H A W .typed h₀ _ is .0)) $
         assigns ! (of-opd ! (load ! (from ! (stop !)) (look ! 12 refl))) (from ! (stop !)) (init ! 16 refl (LL.lawful (T.the-type αᵉ) (T′.the-laws αᵉ) 𝓤 H A W .typed h₀ _ is .0)) $
         assigns ! (addr ! (from ! (stop !))) (from ! (stop !)) (init ! 8 refl (tt, tt)) $
@@ -217,7 +223,9 @@ module _ {M : Type 1} (𝓤 : URA M) (H : Heap 𝓤) (A : Atoms 𝓤) (W : Given
         move ! (2 ∷ []) $ use1 W (later (some (λ (δ : GName). ‵ (MutRef (named 0) (within ν κ) (R κ) .own (lent l₅ δ) (vptr l₅ 0 ∷ [])) ⊛ ‵ (flent (within ν κ) (Body (mem (R κ)) l₅ 0 δ))))) (lends-ref 𝓤 H A W (R κ) (named 0) (within ν κ) h₀ l₅ 0) $ await ! tt $ pick ! (λ δ. split ! $
         -- `next`
         move ! (3 ∷ []) $ split ! $ move ! (4 ∷ 0 ∷ 2 ∷ []) $ use3 W (raw (Next 𝓤 H A mem″ run .pre (to-next ν l₅ δ))) (goes-next ν l₅ δ) $
-        -- [what `next` asks; what is owed to the new lifetime's token; the lender's part; what capture owns; the number's cell; the open borrow; obs; auth; what family and reports own; _9; …; _8; …; _7; …; _6; …; of _5 its end; _4; …; _3; …; _2; …; _1; …; room for _0; …]
+        -- [what `next` asks; what is owed to the new lifetime's token; the lender's part; what capture owns; the
+        -- number's cell; the open borrow; obs; auth; what family and reports own; _9; …; _8; …; _7; …; _6; …; of _5 its
+        -- end; _4; …; _3; …; _2; …; _1; …; room for _0; …]
         calls-at ! fm (Next 𝓤 H A mem″ run) known-next (to-next ν l₅ δ) (and-then ! (load ! (from ! (stop !)) (look ! 9 refl)) (and-then ! (load ! (from ! (stop !)) (look ! 20 refl)) (and-then ! (load ! (from ! (stop !)) (look ! 18 refl)) (no-more !)))) (λ w.
         use1 W (later (some (λ (r : RefT (List ℕ)). ((‵ (flft (within ν κ) (PosShare·left q)) ⊛ ‵ (flft κ (PosShare·right q)) ⊛ ‵ ftrue) ⊛ ‵ (ShrSlice (named 0) κ u8 .own r (w ∷ []))) ⊛ raw (ensured 𝓤 H A next.ended (next.clauses 𝓤 H A mem″ run) (within ν κ, (κ, tt)) (lent l₅ δ, (f, (t, tt))) tt r)))) (id⊢ 𝓤 _) $ await ! tt $ pick ! (λ r.
         split ! $ move ! (1 ∷ []) $ use1 W (some (λ (ws : CaptureReader × (Unit {0} × (Unit {0} × Unit {0}))). ‵ (lasts next.ended (within ν κ, (κ, tt)) (lent l₅ δ, (f, (t, tt))) ws) ⊛ raw (fact 𝓤 (Gives f t h₀ (ws .0) r)))) (id⊢ 𝓤 _) $ pick ! (λ ws.
@@ -229,13 +237,16 @@ module _ {M : Type 1} (𝓤 : URA M) (H : Heap 𝓤) (A : Atoms 𝓤) (W : Given
         lft-end ! tt $ use1 W (‵ (fdead (within ν κ))) (W .lfts .dead-incl (within ν κ) (ν ∷ []) (meet-⊑-left (ν ∷ []) κ)) $
         move ! (0 ∷ 4 ∷ 3 ∷ []) $ use3 W (later (‵ (partAt (R κ) fullShare (ws .0) l₅ 0))) (ref-back 𝓤 H A W (R κ) (within ν κ) δ (ws .0) l₅ 0) $ await ! tt $
         use1 W (given (Is (R κ) (ws .0) (T′.lowered (ws .0) ∷ [])) (‵ (fat fullShare (T′.mir erased) l₅ 0 (T′.lowered (ws .0))))) (cell-out 𝓤 H A W κ (ws .0) l₅) $ learn ! (λ was.
-        -- [_5; the capture's token; what the part owns; what capture owns; the number's cell; the open borrow; obs; auth; what family and reports own; _9; …; _8; …; _7; …; _6; …; of _5 its end; _4; …; _3; …; _2; …; _1; …; room for _0; …]
+        -- [_5; the capture's token; what the part owns; what capture owns; the number's cell; the open borrow; obs;
+        -- auth; what family and reports own; _9; …; _8; …; _7; …; _6; …; of _5 its end; _4; …; _3; …; _2; …; _1; …;
+        -- room for _0; …]
         assigns ! (of-opd ! (load ! (from ! (fld ! refl (stop !))) (look-in ! 0 (sub ! 1 refl (whole !))))) (from ! (stop !)) (store ! 11 refl (tt, record { fits = place-fits (ws .0) _ was })) $
         assigns ! (of-opd ! (load ! (from ! (stop !)) (look ! 11 refl))) (from ! (hop ! (look ! 22 refl) (stop !))) (store ! 4 refl (tt, record { fits = place-fits (ws .0) _ was })) $
         assigns ! (of-opd ! (load ! (from ! (stop !)) (look ! 15 refl))) (from ! (stop !)) (init ! 26 refl (shr-slice-lawful 𝓤 H A W (named 0) κ u8 .typed r (w ∷ []) is′ .0)) $
         -- the caller's borrow is closed at the place reached
         fltI ! (ws .0 .place) (2 ^ 64) (place-fits (ws .0) _ was) $ move ! (5 ∷ 0 ∷ 6 ∷ 7 ∷ 8 ∷ []) $ ties ! fullShare (usize .mir) (vint w64 (ws .0 .place) ∷ []) b o $ closes ! tt usize (ws .0 .place) (vint w64 (ws .0 .place) ∷ []) b o $
-        -- [obs; the borrow; its token; _5; the capture's token; what the part owns; what capture owns; what family and reports own; _9; …; _8; …; _7; …; _6; …; of _5 its end; _4; …; _3; …; _2; …; _1; …; _0; …]
+        -- [obs; the borrow; its token; _5; the capture's token; what the part owns; what capture owns; what family and
+        -- reports own; _9; …; _8; …; _7; …; _6; …; of _5 its end; _4; …; _3; …; _2; …; _1; …; _0; …]
         returns ! (look ! 25 refl) $ forget ! 3 refl $ forget ! 8 refl $ forget ! 10 refl $ forget ! 12 refl $ forget ! 14 refl $ forget ! 17 refl $ forget ! 19 refl $ forget ! 21 refl $ forget ! 23 refl $ forget ! 25 refl $
         move ! (25 ∷ 26 ∷ []) $ free1 ! $ move ! (23 ∷ 24 ∷ []) $ free1 ! $ move ! (21 ∷ 22 ∷ []) $ free1 ! $ move ! (19 ∷ 20 ∷ []) $ free1 ! $ move ! (17 ∷ 18 ∷ []) $ free1 ! $ move ! (3 ∷ 16 ∷ []) $ free1 ! $
         move ! (13 ∷ 14 ∷ []) $ free1 ! $ move ! (11 ∷ 12 ∷ []) $ free1 ! $ move ! (9 ∷ 10 ∷ []) $ free1 ! $ move ! (7 ∷ 8 ∷ []) $ free1 ! $ free0 ! $

@@ -1,5 +1,6 @@
--- `captures::walks::reader_at` meets its contract: a walk of its MIR, by hand. A `CaptureReader` is made of the slice and the place passed, in the result's local.
--- A `&[u8]` is Copy, so what it owns is had twice: once for the parameter at exit, and once inside the result, beside the facts of the place, which are made for both.
+-- `captures::walks::reader_at` meets its contract: a walk of its MIR, by hand. A `CaptureReader` is made of the slice
+-- and the place passed, in the result's local. A `&[u8]` is Copy, so what it owns is had twice: once for the parameter
+-- at exit, and once inside the result, beside the facts of the place, which are made for both.
 -- Assumes nothing.
 use mathlib.Core.Path.{refl}
 use Prim.Native.Nat.{ℕ, _<_, _^_}

@@ -1,4 +1,5 @@
--- `checksums::hexadecimal::pair_in` meets its contract: each number found is below 16 and its digit's, and 16 tells that there is none.
+-- `checksums::hexadecimal::pair_in` meets its contract: each number found is below 16 and its digit's, and 16 tells
+-- that there is none.
 -- Assumes nothing.
 use mathlib.Core.Path.{sym, _∙_}
 use mathlib.Core.Bool.{and-false}

@@ -1,6 +1,6 @@
--- `checksums::sentence_sums::fletcher` meets its contract. The loop's invariant: what is found so far, with what is found in the bytes
--- that are left, is what is found in all of them, the sums modulo 256; and the weight is the number of bytes left, modulo
--- 256. The measure is what is left of the bytes. Assumes nothing.
+-- `checksums::sentence_sums::fletcher` meets its contract. The loop's invariant: what is found so far, with what is
+-- found in the bytes that are left, is what is found in all of them, the sums modulo 256; and the weight is the number
+-- of bytes left, modulo 256. The measure is what is left of the bytes. Assumes nothing.
 use Prim.Native.Nat.{ℕ, _+_, _-_, _*_, _%_, _^_, _≤_, _<_}
 use mathlib.Core.Path.{_≡_, refl, ap, _∙_}
 use mathlib.Core.Bool.{Bool, _&&_, and-assoc, and-true}

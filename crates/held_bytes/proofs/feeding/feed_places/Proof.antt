@@ -1,7 +1,8 @@
--- `held_bytes::feeding::feed_places` meets its contract: its tests are the refusals, in their order; behind them an advance is the call, and a drain the
--- look at close. That the test of the places fails is what the contract takes for granted.
+-- `held_bytes::feeding::feed_places` meets its contract: its tests are the refusals, in their order; behind them an
+-- advance is the call, and a drain the look at close. That the test of the places fails is what the contract takes for
+-- granted.
 -- Assumes nothing.
-use Prim.Native.Nat.{ℕ, _≤_, _<_}
+use Prim.Native.Nat.{_≤_, _<_}
 use mathlib.Core.Path.{_≡_, sym, ap, _∙_}
 use mathlib.Core.Bool.{true}
 use mathlib.Core.List.{[]}
@@ -32,18 +33,18 @@ abbrev called : tie.Start → Call
 called c = call (head (c .args .family)) (take (c .args .count) (c .args .held .now)) (c .args .offered .now)
 
 -- the start, from behind each test
-abbrev from-size : tie.After-size → tie.Start
-from-size c = c .before .before .before .before
+abbrev from-places : tie.After-places-in → tie.Start
+from-places c = c .before .before .before .before
 
 abbrev from-family : tie.After-is-family → tie.Start
-from-family c = from-size (c .before .before)
+from-family c = from-places (c .before .before)
 
 abbrev from-longest : tie.After-longest-frame → tie.Start
 from-longest c = from-family (c .before .before)
 
 -- where the first tests have been passed
-places : (c : tie.Else1) → length (from-size (c .before) .args .held .now) ≡ 133
-places c = sym (c .before .size .ensures) ∙ c .if1 .left
+places : (c : tie.Else1) → length (from-places (c .before) .args .held .now) ≡ 133
+places c = sym (c .before .places-in .ensures) ∙ c .if1 .left
 
 a-family : (c : tie.Else2) → isFamily (from-family (c .before) .args .family) ≡ true
 a-family c = sym (c .before .is-family .ensures) ∙ not-false _ (c .if2 .left)
@@ -66,14 +67,14 @@ module _ (c : tie.Else3) where
   few : start .args .count < longest (start .args .family)
   few = omega (arith, c .if3 .left, c .before .longest-frame .ensures)
 
-size-requires : tie.Need-size-requires
-size-requires c κs = search needs
+places-in-requires : tie.Need-places-in-requires
+places-in-requires c κs = search needs
 
 refused-requires : tie.Need-refused-requires
 refused-requires c κs = search needs
 
 returns : tie.Need-returns
-returns c = λ held. absurd (c .before .if1 .taken (c .before .before .size .ensures ∙ held))
+returns c = λ held. absurd (c .before .if1 .taken (c .before .before .places-in .ensures ∙ held))
 
 is-family-requires : tie.Need-is-family-requires
 is-family-requires c κs = search needs
@@ -146,7 +147,7 @@ pub feed-places-spec : {M : Type 1} → statement M
 feed-places-spec =
     tie.close
     (tie.spec
-    size-requires
+    places-in-requires
     refused-requires
     returns
     is-family-requires

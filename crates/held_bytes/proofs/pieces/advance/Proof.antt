@@ -1,5 +1,5 @@
--- `held_bytes::pieces::advance` meets its contract: where nothing is held, the bytes offered are searched; else the first piece is taken, and where
--- that leaves no frame, the search goes on from what was kept.
+-- `held_bytes::pieces::advance` meets its contract: where nothing is held, the bytes offered are searched; else the
+-- first piece is taken, and where that leaves no frame, the search goes on from what was kept.
 -- Assumes nothing.
 use Prim.Native.Nat.{ℕ, _-_, _≤_}
 use mathlib.Core.Path.{_≡_, sym, ap, subst, _∙_}

@@ -1,4 +1,5 @@
--- `held_bytes::pieces::take_piece` meets its contract: the buffer is the held bytes and the piece, so the turn of it is the call on the piece.
+-- `held_bytes::pieces::take_piece` meets its contract: the buffer is the held bytes and the piece, so the turn of it is
+-- the call on the piece.
 -- Assumes nothing.
 use Prim.Native.Nat.{ℕ, _+_, _≤_}
 use mathlib.Core.Path.{_≡_, sym, ap, subst, _∙_}

@@ -1,11 +1,10 @@
--- `held_bytes::pieces::turn_of` meets its contract: what the search has found is what the call says, and what is laid into the places what it keeps.
+-- `held_bytes::pieces::turn_of` meets its contract: what the search has found is what the call says, and what is laid
+-- into the places what it keeps.
 -- Assumes nothing.
 use Prim.Native.Nat.{ℕ, max, _+_, _-_, _≤_}
 use mathlib.Core.Path.{_≡_, refl, sym, ap, _∙_}
-use mathlib.Core.List.{List}
 use native.Mathlib.Omega.{arith}
 use lib.ListN.{length, drop, length-take}
-use Rattle.rules.specs.Bytes.{part}
 use Rattle.stream_rules.specs.Rule.{gives, wants}
 use Rattle.stream_rules.specs.Streams.{filled}
 use Rattle.stream_laws.proofs.States.{longest-fits}

@@ -1,5 +1,5 @@
--- `lister::lists::fill_commands` meets its contract. The loop's invariant: n starts are found, and those of the frames left from `at` on
--- are to come. The measure is what is left of the capture.
+-- `lister::lists::fill_commands` meets its contract. The loop's invariant: n starts are found, and those of the frames
+-- left from `at` on are to come. The measure is what is left of the capture.
 -- Assumes nothing.
 use Prim.Native.Nat.{ℕ, _+_, _-_, _≤_}
 use mathlib.Core.Path.{_≡_, sym, ap, _∙_}
@@ -7,7 +7,7 @@ use native.Mathlib.Omega.{arith}
 use borrow.Author.Needs.{needs}
 use lib.ListN.{length, drop}
 use Rattle.stream_laws.proofs.Lists.{whole-rest}
-use Rattle.lister.specs.Sizes.{sizeAt}
+use Rattle.lister.specs.GoodLengths.{goodLength}
 use Rattle.lister.proofs.Filling.{Filled, nothing-filled, passed, inside, filled-in, ends}
 use Rattle.lister.proofs.lists.fill_commands.Statement.{statement}
 use Rattle.lister.proofs.lists.fill_commands.Tie as tie
@@ -19,21 +19,21 @@ abbrev μ-loop : tie.MeasureT-loop
 μ-loop capture starts₀ at₀ n₀ starts at n = length capture - at
 
 -- what stands at `at`
-module _ (c : tie.After-command-size Inv-loop μ-loop) where
+module _ (c : tie.After-command-length Inv-loop μ-loop) where
   abbrev start : tie.Start Inv-loop μ-loop
   start = c .before .before .before .before .before .before
 
   abbrev at : ℕ
   at = c .before .before .before .loop .at
 
-  abbrev size : ℕ
-  size = c .command-size .result
+  abbrev long : ℕ
+  long = c .command-length .result
 
-  is-size : size ≡ sizeAt 3 (drop at (start .args .capture .now))
-  is-size = c .command-size .ensures ∙ ap (sizeAt 3) (whole-rest (start .args .capture .now) at)
+  is-length : long ≡ goodLength 3 (drop at (start .args .capture .now))
+  is-length = c .command-length .ensures ∙ ap (goodLength 3) (whole-rest (start .args .capture .now) at)
 
-  within : (size ≡ 0 → ⊥) → at + size ≤ length (start .args .capture .now)
-  within = inside _ _ _ _ _ _ (c .before .before .before .loop .inv) size is-size
+  within : (long ≡ 0 → ⊥) → at + long ≤ length (start .args .capture .now)
+  within = inside _ _ _ _ _ _ (c .before .before .before .loop .inv) long is-length
 
 -- where a start has been noted
 module _ (c : tie.After-slice-known2 Inv-loop μ-loop) where
@@ -43,7 +43,7 @@ module _ (c : tie.After-slice-known2 Inv-loop μ-loop) where
   abbrev before : tie.At-loop Inv-loop μ-loop
   before = frame .before .before .before .before
 
-  small : (at (frame .before) + size (frame .before) ≤ 65536) × (before .loop .n ≤ at (frame .before))
+  small : (at (frame .before) + long (frame .before) ≤ 65536) × (before .loop .n ≤ at (frame .before))
   small = (omega (arith, within (frame .before) (frame .if1 .left), start (frame .before) .pre), before .loop .inv .few)
 
 loop-holds : tie.Need-loop-holds Inv-loop μ-loop
@@ -52,20 +52,20 @@ loop-holds c = nothing-filled _ _ _
 sub-loop : tie.Need-sub-loop Inv-loop μ-loop
 sub-loop c = c .loop .inv .within
 
-sub-command-size : tie.Need-sub-command-size Inv-loop μ-loop
-sub-command-size c = c .before .loop .inv .within
+sub-command-length : tie.Need-sub-command-length Inv-loop μ-loop
+sub-command-length c = c .before .loop .inv .within
 
-part-command-size-start : tie.Need-part-command-size-start Inv-loop μ-loop
-part-command-size-start c = omega arith
+part-command-length-start : tie.Need-part-command-length-start Inv-loop μ-loop
+part-command-length-start c = omega arith
 
-part-command-size-end : tie.Need-part-command-size-end Inv-loop μ-loop
-part-command-size-end c = omega arith
+part-command-length-end : tie.Need-part-command-length-end Inv-loop μ-loop
+part-command-length-end c = omega arith
 
-command-size-requires : tie.Need-command-size-requires Inv-loop μ-loop
-command-size-requires c κs = search needs
+command-length-requires : tie.Need-command-length-requires Inv-loop μ-loop
+command-length-requires c κs = search needs
 
 next-command-requires : tie.Need-next-command-requires Inv-loop μ-loop
-next-command-requires c κs = (omega arith, sym (c .if1 .taken) ∙ is-size (c .before))
+next-command-requires c κs = (omega arith, sym (c .if1 .taken) ∙ is-length (c .before))
 
 loop-less : tie.Need-loop-less Inv-loop μ-loop
 loop-less c = omega (arith, c .next-command .ensures .0, c .next-command .ensures .1 .within)
@@ -88,7 +88,7 @@ loop-less-2 c = omega (arith, within (frame c .before) (frame c .if1 .left), fra
 loop-again-2 : tie.Need-loop-again-2 Inv-loop μ-loop
 loop-again-2 c =
     rw (c .before .before .note .ensures)
-    (filled-in _ _ _ _ _ _ (before c .loop .inv) (size (frame c .before)) (is-size (frame c .before)) (frame c .if1 .left))
+    (filled-in _ _ _ _ _ _ (before c .loop .inv) (long (frame c .before)) (is-length (frame c .before)) (frame c .if1 .left))
 
 same-length : tie.Need-same-length Inv-loop μ-loop
 same-length c = c .before .loop .inv .same
@@ -106,10 +106,10 @@ fill-commands-spec =
     μ-loop
     loop-holds
     sub-loop
-    sub-command-size
-    part-command-size-start
-    part-command-size-end
-    command-size-requires
+    sub-command-length
+    part-command-length-start
+    part-command-length-end
+    command-length-requires
     next-command-requires
     loop-less
     loop-again

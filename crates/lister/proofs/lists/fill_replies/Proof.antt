@@ -1,5 +1,5 @@
--- `lister::lists::fill_replies` meets its contract. The loop's invariant: n starts are found, and those of the frames left from `at` on
--- are to come. The measure is what is left of the capture.
+-- `lister::lists::fill_replies` meets its contract. The loop's invariant: n starts are found, and those of the frames
+-- left from `at` on are to come. The measure is what is left of the capture.
 -- Assumes nothing.
 use Prim.Native.Nat.{ℕ, _+_, _-_, _≤_}
 use mathlib.Core.Path.{_≡_, refl, sym, ap, _∙_}
@@ -7,7 +7,7 @@ use native.Mathlib.Omega.{arith}
 use borrow.Author.Needs.{needs}
 use lib.ListN.{length, drop}
 use Rattle.stream_laws.proofs.Lists.{whole-rest}
-use Rattle.lister.specs.Sizes.{sizeAt}
+use Rattle.lister.specs.GoodLengths.{goodLength}
 use Rattle.lister.proofs.Skips.{over-mark, over-four}
 use Rattle.lister.proofs.Filling.{Filled, nothing-filled, passed, inside, filled-in, ends}
 use Rattle.lister.proofs.lists.fill_replies.Statement.{statement}
@@ -20,21 +20,21 @@ abbrev μ-loop : tie.MeasureT-loop
 μ-loop capture starts₀ at₀ n₀ starts at n = length capture - at
 
 -- what stands at `at`
-module _ (c : tie.After-reply-size Inv-loop μ-loop) where
+module _ (c : tie.After-reply-length Inv-loop μ-loop) where
   abbrev start : tie.Start Inv-loop μ-loop
   start = c .before .before .before .before .before .before .before .before
 
   abbrev at : ℕ
   at = c .before .before .before .before .before .loop .at
 
-  abbrev size : ℕ
-  size = c .reply-size .result
+  abbrev long : ℕ
+  long = c .reply-length .result
 
-  is-size : size ≡ sizeAt 1 (drop at (start .args .capture .now))
-  is-size = c .reply-size .ensures ∙ ap (sizeAt 1) (whole-rest (start .args .capture .now) at)
+  is-length : long ≡ goodLength 1 (drop at (start .args .capture .now))
+  is-length = c .reply-length .ensures ∙ ap (goodLength 1) (whole-rest (start .args .capture .now) at)
 
-  within : (size ≡ 0 → ⊥) → at + size ≤ length (start .args .capture .now)
-  within = inside _ _ _ _ _ _ (c .before .before .before .before .before .loop .inv) size is-size
+  within : (long ≡ 0 → ⊥) → at + long ≤ length (start .args .capture .now)
+  within = inside _ _ _ _ _ _ (c .before .before .before .before .before .loop .inv) long is-length
 
 -- where a start has been noted
 module _ (c : tie.After-slice-known2 Inv-loop μ-loop) where
@@ -44,7 +44,7 @@ module _ (c : tie.After-slice-known2 Inv-loop μ-loop) where
   abbrev before : tie.At-loop Inv-loop μ-loop
   before = frame .before .before .before .before .before .before
 
-  small : (at (frame .before) + size (frame .before) ≤ 65536) × (before .loop .n ≤ at (frame .before))
+  small : (at (frame .before) + long (frame .before) ≤ 65536) × (before .loop .n ≤ at (frame .before))
   small = (omega (arith, within (frame .before) (frame .if2 .left), start (frame .before) .pre), before .loop .inv .few)
 
 loop-holds : tie.Need-loop-holds Inv-loop μ-loop
@@ -71,17 +71,17 @@ loop-again c =
     let loop = c .before .before .before .loop in
     passed _ _ _ _ _ _ (loop .inv) _ (over-mark 1 refl (a .capture .now) (loop .at) (omega arith) (c .if1 .taken))
 
-sub-reply-size : tie.Need-sub-reply-size Inv-loop μ-loop
-sub-reply-size c = c .before .before .before .loop .inv .within
+sub-reply-length : tie.Need-sub-reply-length Inv-loop μ-loop
+sub-reply-length c = c .before .before .before .loop .inv .within
 
-part-reply-size-start : tie.Need-part-reply-size-start Inv-loop μ-loop
-part-reply-size-start c = omega arith
+part-reply-length-start : tie.Need-part-reply-length-start Inv-loop μ-loop
+part-reply-length-start c = omega arith
 
-part-reply-size-end : tie.Need-part-reply-size-end Inv-loop μ-loop
-part-reply-size-end c = omega arith
+part-reply-length-end : tie.Need-part-reply-length-end Inv-loop μ-loop
+part-reply-length-end c = omega arith
 
-reply-size-requires : tie.Need-reply-size-requires Inv-loop μ-loop
-reply-size-requires c κs = search needs
+reply-length-requires : tie.Need-reply-length-requires Inv-loop μ-loop
+reply-length-requires c κs = search needs
 
 add-at-2 : tie.Need-add-at-2 Inv-loop μ-loop
 add-at-2 c = omega arith
@@ -94,7 +94,7 @@ loop-again-2 c =
     let a = start (c .before) .args in
     let loop = c .before .before .before .before .before .before .loop in
     passed _ _ _ _ _ _ (loop .inv) _
-    (over-four 1 refl (a .capture .now) (loop .at) (omega arith) (c .before .before .before .if1 .left) (sym (c .if2 .taken) ∙ is-size (c .before)))
+    (over-four 1 refl (a .capture .now) (loop .at) (omega arith) (c .before .before .before .if1 .left) (sym (c .if2 .taken) ∙ is-length (c .before)))
 
 note-requires : tie.Need-note-requires Inv-loop μ-loop
 note-requires c κs = omega (arith, c .before .before .before .before .before .before .before .loop .inv .within, start (c .before .before) .pre)
@@ -111,7 +111,7 @@ loop-less-3 c = omega (arith, within (frame c .before) (frame c .if2 .left), fra
 loop-again-3 : tie.Need-loop-again-3 Inv-loop μ-loop
 loop-again-3 c =
     rw (c .before .before .note .ensures)
-    (filled-in _ _ _ _ _ _ (before c .loop .inv) (size (frame c .before)) (is-size (frame c .before)) (frame c .if2 .left))
+    (filled-in _ _ _ _ _ _ (before c .loop .inv) (long (frame c .before)) (is-length (frame c .before)) (frame c .if2 .left))
 
 same-length : tie.Need-same-length Inv-loop μ-loop
 same-length c = c .before .loop .inv .same
@@ -134,10 +134,10 @@ fill-replies-spec =
     add-at
     loop-less
     loop-again
-    sub-reply-size
-    part-reply-size-start
-    part-reply-size-end
-    reply-size-requires
+    sub-reply-length
+    part-reply-length-start
+    part-reply-length-end
+    reply-length-requires
     add-at-2
     loop-less-2
     loop-again-2

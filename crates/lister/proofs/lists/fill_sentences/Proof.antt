@@ -1,5 +1,5 @@
--- `lister::lists::fill_sentences` meets its contract. The loop's invariant: n starts are found, and those of the frames left from `at`
--- on are to come. The measure is what is left of the capture.
+-- `lister::lists::fill_sentences` meets its contract. The loop's invariant: n starts are found, and those of the frames
+-- left from `at` on are to come. The measure is what is left of the capture.
 -- Assumes nothing.
 use Prim.Native.Nat.{ℕ, _+_, _-_, min, _≤_}
 use mathlib.Core.Path.{_≡_, sym, ap, _∙_}
@@ -11,7 +11,7 @@ use lib.ListN.{length, take, drop}
 use lib.Seq.{drop-drop}
 use Rattle.stream_rules.specs.Heads.{payloadRun}
 use Rattle.stream_laws.proofs.Lists.{whole-rest}
-use Rattle.lister.specs.Sizes.{sizeAt}
+use Rattle.lister.specs.GoodLengths.{goodLength}
 use Rattle.lister.proofs.Skips.{over-byte, over-none, over-run}
 use Rattle.lister.proofs.Filling.{Filled, nothing-filled, passed, inside, filled-in, ends}
 use Rattle.lister.proofs.lists.fill_sentences.Statement.{statement}
@@ -53,21 +53,21 @@ module _ (c : tie.Else3 Inv-loop μ-loop) where
   abbrev before : tie.At-loop Inv-loop μ-loop
   before = turn (c .before .before .before)
 
-  abbrev size : ℕ
-  size = c .before .sentence-size .result
+  abbrev long : ℕ
+  long = c .before .sentence-length .result
 
-  is-size : size ≡ sizeAt 2 (drop (at before) (bytes before))
-  is-size = c .before .sentence-size .ensures ∙ ap (sizeAt 2) (lent before)
+  is-length : long ≡ goodLength 2 (drop (at before) (bytes before))
+  is-length = c .before .sentence-length .ensures ∙ ap (goodLength 2) (lent before)
 
-  within : at before + size ≤ length (bytes before)
-  within = inside _ _ _ _ _ _ (before .loop .inv) size is-size (c .if3 .left)
+  within : at before + long ≤ length (bytes before)
+  within = inside _ _ _ _ _ _ (before .loop .inv) long is-length (c .if3 .left)
 
 -- where a start has been noted
 module _ (c : tie.After-slice-known2 Inv-loop μ-loop) where
   abbrev frame : tie.Else3 Inv-loop μ-loop
   frame = c .before .before .before .before
 
-  small : (at (before frame) + size frame ≤ 65536) × (before frame .loop .n ≤ at (before frame))
+  small : (at (before frame) + long frame ≤ 65536) × (before frame .loop .n ≤ at (before frame))
   small = (omega (arith, within frame, start (before frame) .pre), before frame .loop .inv .few)
 
 loop-holds : tie.Need-loop-holds Inv-loop μ-loop
@@ -112,7 +112,7 @@ loop-again-2 c =
     let loop = c .before .before .before .before .before .before .loop in
     passed _ _ _ _ _ _ (loop .inv) _
     (over-none 2 (a .capture .now) (loop .at) (omega arith)
-    (c .before .may-be-sentence .ensures (not-true _ (c .if2 .taken)) ∙ ap (sizeAt 2) (whole-rest (a .capture .now) (loop .at))))
+    (c .before .may-be-sentence .ensures (not-true _ (c .if2 .taken)) ∙ ap (goodLength 2) (whole-rest (a .capture .now) (loop .at))))
 
 add-payload-bytes : tie.Need-add-payload-bytes Inv-loop μ-loop
 add-payload-bytes c = omega arith
@@ -129,17 +129,17 @@ part-payload-bytes-end c = omega arith
 payload-bytes-requires : tie.Need-payload-bytes-requires Inv-loop μ-loop
 payload-bytes-requires c κs = search needs
 
-sub-sentence-size : tie.Need-sub-sentence-size Inv-loop μ-loop
-sub-sentence-size c = omega arith
+sub-sentence-length : tie.Need-sub-sentence-length Inv-loop μ-loop
+sub-sentence-length c = omega arith
 
-part-sentence-size-start : tie.Need-part-sentence-size-start Inv-loop μ-loop
-part-sentence-size-start c = omega arith
+part-sentence-length-start : tie.Need-part-sentence-length-start Inv-loop μ-loop
+part-sentence-length-start c = omega arith
 
-part-sentence-size-end : tie.Need-part-sentence-size-end Inv-loop μ-loop
-part-sentence-size-end c = omega arith
+part-sentence-length-end : tie.Need-part-sentence-length-end Inv-loop μ-loop
+part-sentence-length-end c = omega arith
 
-sentence-size-requires : tie.Need-sentence-size-requires Inv-loop μ-loop
-sentence-size-requires c κs =
+sentence-length-requires : tie.Need-sentence-length-requires Inv-loop μ-loop
+sentence-length-requires c κs =
     let k = turn (c .before) in
     counted (c .before) ∙ ap (λ (l : List ℕ). min (length (payloadRun (drop 1 l))) 129) (sym (lent k))
 
@@ -158,7 +158,7 @@ loop-again-3 c =
     let k = turn run in
     passed _ _ _ _ _ _ (k .loop .inv) _
     (over-run (bytes k) (at k) (run .payload-bytes .result) (omega arith) (omega (arith, counted run))
-    (sym (c .if3 .taken) ∙ c .before .sentence-size .ensures ∙ ap (sizeAt 2) (lent k)))
+    (sym (c .if3 .taken) ∙ c .before .sentence-length .ensures ∙ ap (goodLength 2) (lent k)))
 
 note-requires : tie.Need-note-requires Inv-loop μ-loop
 note-requires c κs = omega (arith, within (c .before), start (before (c .before)) .pre)
@@ -175,7 +175,7 @@ loop-less-4 c = omega (arith, within (frame c), frame c .if3 .left)
 loop-again-4 : tie.Need-loop-again-4 Inv-loop μ-loop
 loop-again-4 c =
     rw (c .before .before .note .ensures)
-    (filled-in _ _ _ _ _ _ (before (frame c) .loop .inv) (size (frame c)) (is-size (frame c)) (frame c .if3 .left))
+    (filled-in _ _ _ _ _ _ (before (frame c) .loop .inv) (long (frame c)) (is-length (frame c)) (frame c .if3 .left))
 
 same-length : tie.Need-same-length Inv-loop μ-loop
 same-length c = c .before .loop .inv .same
@@ -208,10 +208,10 @@ fill-sentences-spec =
     part-payload-bytes-start
     part-payload-bytes-end
     payload-bytes-requires
-    sub-sentence-size
-    part-sentence-size-start
-    part-sentence-size-end
-    sentence-size-requires
+    sub-sentence-length
+    part-sentence-length-start
+    part-sentence-length-end
+    sentence-length-requires
     add-at-3
     add-at-4
     loop-less-3

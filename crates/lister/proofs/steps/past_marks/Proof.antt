@@ -5,7 +5,7 @@ use Prim.Native.Nat.{_+_, _-_}
 use mathlib.Core.Path.{refl}
 use native.Mathlib.Omega.{arith}
 use lib.ListN.{length}
-use Rattle.lister.specs.Sizes.{Passes}
+use Rattle.lister.specs.GoodLengths.{Passes}
 use Rattle.lister.proofs.Skips.{nothing-passed, over-mark, further}
 use Rattle.lister.proofs.steps.past_marks.Statement.{statement}
 use Rattle.lister.proofs.steps.past_marks.Tie as tie

@@ -21,8 +21,8 @@ returns c = search needs
 loop-holds : tie.Need-loop-holds Inv-loop μ-loop
 loop-holds c = search needs
 
-call-size-requires : tie.Need-call-size-requires Inv-loop μ-loop
-call-size-requires c κs = search needs
+call-length-requires : tie.Need-call-length-requires Inv-loop μ-loop
+call-length-requires c κs = search needs
 
 slice-aggregate-print-text : tie.Need-slice-aggregate-print-text Inv-loop μ-loop
 slice-aggregate-print-text c = search needs
@@ -66,7 +66,7 @@ print-calls-spec =
     print-refused-requires
     returns
     loop-holds
-    call-size-requires
+    call-length-requires
     slice-aggregate-print-text
     print-text-requires
     returns-2

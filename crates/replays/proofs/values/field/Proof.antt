@@ -67,8 +67,12 @@ unfolding fieldTexts
 returns-3 c =
     let a = c .before .before .before .before .before .before .before .before .before .before in
     let t = c .before .before in
+    let asked = c .before .before .before .before .before .before in
     let read = toZ-ofZ w64 (a .args .v) (a .fits .v) in
-    rw (ne-eqb (a .args .form) 75 (c .before .before .before .before .before .before .before .before .if1 .left), ne-eqb (a .args .form) 76 (c .before .before .before .before .before .before .before .if2 .left), eq-eqb (a .args .form) 74 (c .before .before .before .before .before .before .if3 .taken)) (rw (t .before .before .before .letter-of2 .ensures, read) at (t .text3 .ensures))
+    let no-model = ne-eqb (a .args .form) 75 (asked .before .before .if1 .left) in
+    let no-spaced = ne-eqb (a .args .form) 76 (asked .before .if2 .left) in
+    let is-joined = eq-eqb (a .args .form) 74 (asked .if3 .taken) in
+    rw (no-model, no-spaced, is-joined) (rw (t .before .before .before .letter-of2 .ensures, read) at (t .text3 .ensures))
 
 signed-requires-2 : tie.Need-signed-requires-2
 signed-requires-2 c κs = search needs
@@ -80,8 +84,12 @@ returns-4 : tie.Need-returns-4
 unfolding fieldTexts
 returns-4 c =
     let a = c .before .before .before .before .before .before .before .before in
+    let asked = c .before .before .before .before in
     let read = toZ-ofZ w64 (a .args .v) (a .fits .v) in
-    rw (ne-eqb (a .args .form) 75 (c .before .before .before .before .before .before .if1 .left), ne-eqb (a .args .form) 76 (c .before .before .before .before .before .if2 .left), ne-eqb (a .args .form) 74 (c .before .before .before .before .if3 .left)) (rw read at (c .before .before .signed2 .ensures))
+    let no-model = ne-eqb (a .args .form) 75 (asked .before .before .if1 .left) in
+    let no-spaced = ne-eqb (a .args .form) 76 (asked .before .if2 .left) in
+    let not-joined = ne-eqb (a .args .form) 74 (asked .if3 .left) in
+    rw (no-model, no-spaced, not-joined) (rw read at (c .before .before .signed2 .ensures))
 
 pub field-spec : {M : Type 1} → statement M
 field-spec =

@@ -33,8 +33,8 @@ slice-aggregate-text c = search needs
 text-requires : tie.Need-text-requires
 text-requires c κs = search needs
 
-size-requires : tie.Need-size-requires
-size-requires c κs = search needs
+magnitude-requires : tie.Need-magnitude-requires
+magnitude-requires c κs = search needs
 
 number-requires : tie.Need-number-requires
 number-requires c κs = search needs
@@ -49,10 +49,10 @@ returns c =
     let s = t .before .before .before in
     let a = s .before .before in
     let read = toZ-ofZ w64 (a .args .z) (a .fits .z) in
-    rw (below (a .args .z) (rw read at (s .if1 .taken))) (t .text .ensures then rw (n .before .size .ensures, read) at (n .number .ensures))
+    rw (below (a .args .z) (rw read at (s .if1 .taken))) (t .text .ensures then rw (n .before .magnitude .ensures, read) at (n .number .ensures))
 
-size-requires-2 : tie.Need-size-requires-2
-size-requires-2 c κs = search needs
+magnitude-requires-2 : tie.Need-magnitude-requires-2
+magnitude-requires-2 c κs = search needs
 
 spaced-requires : tie.Need-spaced-requires
 spaced-requires c κs = search needs
@@ -66,7 +66,7 @@ returns-2 c =
     let s = n .before .before .before in
     let a = s .before .before in
     let read = toZ-ofZ w64 (a .args .z) (a .fits .z) in
-    rw (not-below (a .args .z) (rw read at (s .if1 .left))) (rw (n .before .size2 .ensures, read) at (n .spaced .ensures))
+    rw (not-below (a .args .z) (rw read at (s .if1 .left))) (rw (n .before .magnitude2 .ensures, read) at (n .spaced .ensures))
 
 pub signed-spec : {M : Type 1} → statement M
 signed-spec =
@@ -74,11 +74,11 @@ signed-spec =
     (tie.spec
     slice-aggregate-text
     text-requires
-    size-requires
+    magnitude-requires
     number-requires
     same-length
     returns
-    size-requires-2
+    magnitude-requires-2
     spaced-requires
     same-length-2
     returns-2)

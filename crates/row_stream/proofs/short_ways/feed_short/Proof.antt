@@ -1,5 +1,5 @@
--- `row_stream::short_ways::feed_short` meets its contract: each short way is the call on that reader, and where none is taken, nothing is
--- changed before the general way.
+-- `row_stream::short_ways::feed_short` meets its contract: each short way is the call on that reader, and where none is
+-- taken, nothing is changed before the general way.
 -- Assumes nothing.
 use Prim.Native.Nat.{ℕ}
 use mathlib.Core.Path.{_≡_, refl, sym, ap, _∙_}
@@ -21,11 +21,11 @@ module _ (e : tie.Else1) where
   abbrev start : tie.Start
   start = e .before .before .before .before .before .before
 
-  told : IsPlain (start .args .closed) (e .before .before .size .result) (length (start .args .numbers .now))
+  told : IsPlain (start .args .closed) (e .before .before .places-in .result) (length (start .args .numbers .now))
   told = e .before .is-plain .ensures (not-false _ (e .if1 .left))
 
   places : length (start .args .held .now) ≡ 133
-  places = sym (e .before .before .size .ensures) ∙ told .places-all
+  places = sym (e .before .before .places-in .ensures) ∙ told .places-all
 
   room : HasRoom (start .args .held .now) (start .args .numbers .now)
   room = record { row = told .row; places = places }
@@ -47,8 +47,8 @@ module _ (family closed shut count at skipped : ℕ) (held places offered after 
       → FeedsRowAt family closed count held at skipped offered numbers c after left
   as-before is same feeds = rw (is, same .0, same .1) at feeds
 
-size-requires : tie.Need-size-requires
-size-requires c κs = search needs
+places-in-requires : tie.Need-places-in-requires
+places-in-requires c κs = search needs
 
 is-plain-requires : tie.Need-is-plain-requires
 is-plain-requires c κs = search needs
@@ -133,7 +133,7 @@ pub feed-short-spec : {M : Type 1} → statement M
 feed-short-spec =
     tie.close
     (tie.spec
-    size-requires
+    places-in-requires
     is-plain-requires
     feed-any-requires
     left-so-requires

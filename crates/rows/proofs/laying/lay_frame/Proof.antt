@@ -57,7 +57,7 @@ returns-2 c =
     let a = c .before .before .before .before .before .before .before .before .before .before .before .before .args in
     let told = c .before .before .before .before .before .before .before .before .before .before .before .fields-of .ensures in
     let count = told .count in
-    let first = heading (kindRow (kindOf (a .frame))) (codeOf (kindOf (a .frame))) (a .taken) (a .start) (a .skipped) (a .size) in
+    let first = heading (kindRow (kindOf (a .frame))) (codeOf (kindOf (a .frame))) (a .taken) (a .start) (a .skipped) (a .length) in
     let laid = laid-behind first (values (a .frame)) (now (a .numbers)) in
     at-the-front (omega arith)
     (c .before .put-values .ensures

@@ -14,15 +14,15 @@ use Rattle.rows.proofs.laying.lay_values.Statement.{statement}
 use Rattle.rows.proofs.laying.lay_values.Tie as tie
 
 -- six numbers, and the values
-row-length : (kind code taken start skipped size : ℕ) (values : List ℕ)
-    → length (heading kind code taken start skipped size ++ map pos values) ≡ 6 + length values
-row-length kind code taken start skipped size values =
-    omega (arith, length-append (heading kind code taken start skipped size) (map (λ (n : ℕ). pos n) values), length-map values (λ (n : ℕ). pos n))
+row-length : (kind code taken start skipped n : ℕ) (values : List ℕ)
+    → length (heading kind code taken start skipped n ++ map pos values) ≡ 6 + length values
+row-length kind code taken start skipped n values =
+    omega (arith, length-append (heading kind code taken start skipped n) (map (λ (n : ℕ). pos n) values), length-map values (λ (n : ℕ). pos n))
 
 returns : tie.Need-returns
 returns c =
     let a = c .before .before .args in
-    too-long (omega (arith, c .if1 .taken, row-length (a .kind) (a .code) (a .taken) (a .start) (a .skipped) (a .size) (a .values .now)))
+    too-long (omega (arith, c .if1 .taken, row-length (a .kind) (a .code) (a .taken) (a .start) (a .skipped) (a .length) (a .values .now)))
 
 sub-if2 : tie.Need-sub-if2
 sub-if2 c = search needs
@@ -30,7 +30,7 @@ sub-if2 c = search needs
 returns-2 : tie.Need-returns-2
 returns-2 c =
     let a = c .before .before .before .args in
-    too-long (omega (arith, c .if2 .taken, row-length (a .kind) (a .code) (a .taken) (a .start) (a .skipped) (a .size) (a .values .now)))
+    too-long (omega (arith, c .if2 .taken, row-length (a .kind) (a .code) (a .taken) (a .start) (a .skipped) (a .length) (a .values .now)))
 
 put-heading-requires : tie.Need-put-heading-requires
 put-heading-requires c κs = search needs
@@ -45,9 +45,9 @@ returns-3 : tie.Need-returns-3
 returns-3 c =
     let h = c .before .before .before .before in
     let a = c .before .before .before .before .before .before .before .before .before .args in
-    let first = heading (a .kind) (a .code) (a .taken) (a .start) (a .skipped) (a .size) in
+    let first = heading (a .kind) (a .code) (a .taken) (a .start) (a .skipped) (a .length) in
     at-the-front
-    (omega (arith, c .before .before .before .before .before .before .if2 .left, row-length (a .kind) (a .code) (a .taken) (a .start) (a .skipped) (a .size) (a .values .now)))
+    (omega (arith, c .before .before .before .before .before .before .if2 .left, row-length (a .kind) (a .code) (a .taken) (a .start) (a .skipped) (a .length) (a .values .now)))
     (c .before .put-numbers .ensures ∙ rw (h .put-heading .ensures) (laid-behind first (map (λ (n : ℕ). pos n) (a .values .now)) (a .numbers .now)))
 
 pub lay-values-spec : {M : Type 1} → statement M

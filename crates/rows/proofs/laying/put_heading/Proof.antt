@@ -18,11 +18,11 @@ use Rattle.rows.proofs.laying.put_heading.Tie as tie
 stored : (z : ℤ) (n : ℕ) → z ≡ counted n → toZ w64 (ofZ w64 z) ≡ counted n
 stored z n e = rw e (toZ-pos w64 (n % 2 ^ 63) (omega arith))
 
-filled : (kind code taken start skipped size : ℕ) (numbers laid : List ℤ) (x y : ℤ)
-    → laid ≡ laidAt 0 (pos kind ∷ pos code ∷ pos 0 ∷ pos start ∷ pos skipped ∷ pos 0 ∷ []) numbers → x ≡ counted taken → y ≡ counted size
-    → set (set laid 2 x) 5 y ≡ laidAt 0 (heading kind code taken start skipped size) numbers
+filled : (kind code taken start skipped n : ℕ) (numbers laid : List ℤ) (x y : ℤ)
+    → laid ≡ laidAt 0 (pos kind ∷ pos code ∷ pos 0 ∷ pos start ∷ pos skipped ∷ pos 0 ∷ []) numbers → x ≡ counted taken → y ≡ counted n
+    → set (set laid 2 x) 5 y ≡ laidAt 0 (heading kind code taken start skipped n) numbers
 unfolding laidAt
-filled kind code taken start skipped size numbers laid x y e p q = rw (e, p, q)
+filled kind code taken start skipped n numbers laid x y e p q = rw (e, p, q)
 
 slice-aggregate-put-numbers : tie.Need-slice-aggregate-put-numbers
 slice-aggregate-put-numbers c = search needs

@@ -1,5 +1,5 @@
--- `rows::laying::put_values` meets its contract. The loop's invariant: the first i values are laid behind the first six numbers, and
--- as many are lent as before. A turn's store is `lib.Seq`'s `paste-suc`.
+-- `rows::laying::put_values` meets its contract. The loop's invariant: the first i values are laid behind the first six
+-- numbers, and as many are lent as before. A turn's store is `lib.Seq`'s `paste-suc`.
 -- Assumes nothing.
 use Prim.Native.Nat.{_-_, _≤_}
 use mathlib.Core.Path.{_≡_, refl, _∙_}

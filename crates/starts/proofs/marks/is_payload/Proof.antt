@@ -1,5 +1,5 @@
--- `starts::marks::is_payload` meets its contract. The loop's invariant: the bytes before `at` are payload bytes. The measure is what is left of the
--- bytes.
+-- `starts::marks::is_payload` meets its contract. The loop's invariant: the bytes before `at` are payload bytes. The
+-- measure is what is left of the bytes.
 -- Assumes nothing.
 use Prim.Native.Nat.{ℕ, _+_, _-_, _≤_}
 use mathlib.Core.Path.{_≡_, refl, sym, ap, _∙_}

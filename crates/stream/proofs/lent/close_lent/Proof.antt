@@ -1,5 +1,7 @@
--- `stream::lent::close_lent` meets its contract: a walk of its MIR, by hand. The borrow is opened, the reader is copied out and passed to `stream::close`, the reader that comes back is stored over the old one, and the borrow is closed at it.
--- All that the proof knows of `stream::close` is that it meets its contract. A reader owns only facts, so what the callee is passed is not missed, and of the two parts of its result the relation makes what is owned.
+-- `stream::lent::close_lent` meets its contract: a walk of its MIR, by hand. The borrow is opened, the reader is copied
+-- out and passed to `stream::close`, the reader that comes back is stored over the old one, and the borrow is closed at
+-- it. All that the proof knows of `stream::close` is that it meets its contract. A reader owns only facts, so what the
+-- callee is passed is not missed, and of the two parts of its result the relation makes what is owned.
 -- Assumes nothing.
 use mathlib.Core.Path.{refl, ap, subst}
 use Prim.Native.Nat.{ℕ}

@@ -1,5 +1,8 @@
--- `stream::lent::closed_lent` meets its contract: a walk of its MIR, by hand. The reader is copied into a local, the local is lent to `close_lent` for a lifetime that is made for the call, and taken back at the reader that `close_lent` left there (`Lending.antt`). That reader and the outcome make the result.
--- All that the proof knows of `close_lent` is that it meets its contract. The parameter and the result own only facts, so what they own at exit is made anew.
+-- `stream::lent::closed_lent` meets its contract: a walk of its MIR, by hand. The reader is copied into a local, the
+-- local is lent to `close_lent` for a lifetime that is made for the call, and taken back at the reader that
+-- `close_lent` left there (`Lending.antt`). That reader and the outcome make the result. All that the proof knows of
+-- `close_lent` is that it meets its contract. The parameter and the result own only facts, so what they own at exit is
+-- made anew.
 -- Assumes nothing.
 use mathlib.Core.Path.{refl}
 use Prim.Native.Nat.{ℕ}
@@ -105,7 +108,8 @@ module _ {M : Type 1} (𝓤 : URA M) (H : Heap 𝓤) (A : Atoms 𝓤) (W : Given
         split ! $ move ! (1 ∷ []) $ use1 W (some (λ (ys : Reader × Unit {0}). ‵ (lasts close-lent.ended (ν ∷ [], tt) (local-ref r l₂ γ, tt) ys) ⊛ raw (fact 𝓤 (Shuts r (turned (ys .0) o))))) (id⊢ 𝓤 _) $ pick ! (λ ys.
         split ! $ move ! (1 ∷ []) $ heard ! (Shuts r (turned (ys .0) o)) (λ e. fsplit ! $
         move ! (2 ∷ []) $ split ! $ move ! (1 ∷ []) $ peeks ! O.the-row (Is O.the-row) (shows 𝓤 H A O.the-row) o (w ∷ []) (λ is-o.
-        -- [what the outcome owns; the token; the last reader; true; the lender's part; _5; …; _4; …; _3; …; what frees _2; _1; …; room for _0; …]
+        -- [what the outcome owns; the token; the last reader; true; the lender's part; _5; …; _4; …; _3; …; what frees
+        -- _2; _1; …; room for _0; …]
         land ! (from ! (stop !)) (init ! 9 refl (EL.lawful O.the-type O′.the-laws 𝓤 H A W tt .typed o _ is-o .0)) $
         -- the lifetime is ended, and _2 comes back at that reader
         drop ! $ split ! $ move ! (0 ∷ 4 ∷ 2 ∷ []) $ takes-back ! tt R.the-type R′.the-laws ν γ (ys .0) l₂ (λ u is-y.

@@ -1,5 +1,9 @@
--- `stream::lent::fed_lent` meets its contract: a walk of its MIR, by hand. The reader is copied into a local, the local is lent to `feed_lent` for a lifetime that is made for the call, and taken back at the reader that `feed_lent` left there (`Lending.antt`). That reader and the answer make the result.
--- All that the proof knows of `feed_lent` is that it meets its contract. What the slice of offered bytes owns can be had twice: one copy goes to `feed_lent`, at the slice's own lifetime, and one is kept for the exit. The reader and the result own only facts, so what they own at exit is made anew.
+-- `stream::lent::fed_lent` meets its contract: a walk of its MIR, by hand. The reader is copied into a local, the local
+-- is lent to `feed_lent` for a lifetime that is made for the call, and taken back at the reader that `feed_lent` left
+-- there (`Lending.antt`). That reader and the answer make the result. All that the proof knows of `feed_lent` is that
+-- it meets its contract. What the slice of offered bytes owns can be had twice: one copy goes to `feed_lent`, at the
+-- slice's own lifetime, and one is kept for the exit. The reader and the result own only facts, so what they own at
+-- exit is made anew.
 -- Assumes nothing.
 use mathlib.Core.Path.{refl}
 use Prim.Native.Nat.{ℕ}
@@ -132,7 +136,8 @@ module _ {M : Type 1} (𝓤 : URA M) (H : Heap 𝓤) (A : Atoms 𝓤) (W : Given
         split ! $ move ! (1 ∷ []) $ use1 W (some (λ (ys : Reader × (Unit {0} × Unit {0})). ‵ (lasts feed-lent.ended (ν ∷ [], (κ, tt)) (local-ref r l₃ γ, (s, tt)) ys) ⊛ raw (fact 𝓤 (Feeds r (now s) (left (ys .0) n))))) (id⊢ 𝓤 _) $ pick ! (λ ys.
         split ! $ move ! (1 ∷ []) $ heard ! (Feeds r (now s) (left (ys .0) n)) (λ e. fsplit ! $
         move ! (2 ∷ []) $ split ! $ move ! (1 ∷ []) $ peeks ! N.the-row (Is N.the-row) (shows 𝓤 H A N.the-row) n (w ∷ []) (λ is-n.
-        -- [what the answer owns; the tokens; the last reader; what is said of the slice; the lender's part; _6; …; _5; …; _4; …; what frees _3; _2; …; _1; …; room for _0; …; the slice's]
+        -- [what the answer owns; the tokens; the last reader; what is said of the slice; the lender's part; _6; …; _5;
+        -- …; _4; …; what frees _3; _2; …; _1; …; room for _0; …; the slice's]
         land ! (from ! (stop !)) (init ! 9 refl (EL.lawful N.the-type N′.the-laws 𝓤 H A W tt .typed n _ is-n .0)) $
         -- the lifetime ν is ended, and _3 comes back at that reader
         drop ! $ split ! $ move ! (0 ∷ 4 ∷ 2 ∷ []) $ takes-back ! tt R.the-type R′.the-laws ν γ (ys .0) l₃ (λ u is-y.

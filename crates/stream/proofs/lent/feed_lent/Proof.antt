@@ -1,5 +1,8 @@
--- `stream::lent::feed_lent` meets its contract: a walk of its MIR, by hand. The borrow is opened, the reader is copied out and passed to `stream::feed` with the offered bytes, the reader that comes back is stored over the old one, and the borrow is closed at it.
--- All that the proof knows of `stream::feed` is that it meets its contract. A reader owns only facts, so what the callee is passed of it is not missed, and of the two parts of its result the relation makes what is owned.
+-- `stream::lent::feed_lent` meets its contract: a walk of its MIR, by hand. The borrow is opened, the reader is copied
+-- out and passed to `stream::feed` with the offered bytes, the reader that comes back is stored over the old one, and
+-- the borrow is closed at it. All that the proof knows of `stream::feed` is that it meets its contract. A reader owns
+-- only facts, so what the callee is passed of it is not missed, and of the two parts of its result the relation makes
+-- what is owned.
 -- Assumes nothing.
 use mathlib.Core.Path.{refl, ap, subst}
 use Prim.Native.Nat.{ℕ}
@@ -103,15 +106,18 @@ module _ {M : Type 1} (𝓤 : URA M) (H : Heap 𝓤) (A : Atoms 𝓤) (W : Given
         enter ! C Λ code.function (vptr b o ∷ v ∷ []) _ $
         alloc1 ! (λ l₀. alloc1 ! (λ l₁. alloc1 ! (λ l₂. alloc1 ! (λ l₃. alloc1 ! (λ l₄. alloc0 ! $ params1 ! $ pass1 ! (init ! 6 refl (tt, tt)) $ pass1 ! (init ! 4 refl (shr-slice-lawful 𝓤 H A W (named 1) κ′ u8 .typed s (v ∷ []) p .0)) $ pass0 ! $
         move ! (10 ∷ 11 ∷ 12 ∷ []) $ opens-reader ! tt h b o (λ was.
-        -- [the reader's cell; what it owns; the open borrow; obs; auth; room for _4; …; room for _3; …; _2; …; _1; …; room for _0; …; what the slice owns; its token; true]
+        -- [the reader's cell; what it owns; the open borrow; obs; auth; room for _4; …; room for _3; …; _2; …; _1; …;
+        -- room for _0; …; what the slice owns; its token; true]
         assigns ! (of-opd ! (load ! (from ! (hop ! (look ! 11 refl) (stop !))) (look-raw ! 0 refl))) (from ! (stop !)) (init ! 7 refl (reader-typed 𝓤 H A W h was)) $
         move ! (1 ∷ 15 ∷ 16 ∷ []) $ use3 W (raw (Feed 𝓤 H A at-mem run .pre to) ⊛ ‵ Own) (F.apart 𝓤 H A W at-mem run κ′ q′ h s) $ split ! $
-        -- [what the callee asks; what the slice owns; the reader's cell; the open borrow; obs; auth; room for _4; …; _3; …; _2; …; _1; …; room for _0; …; true]
+        -- [what the callee asks; what the slice owns; the reader's cell; the open borrow; obs; auth; room for _4; …;
+        -- _3; …; _2; …; _1; …; room for _0; …; true]
         calls-at ! fm (Feed 𝓤 H A at-mem run) known to (and-then ! (load ! (from ! (stop !)) (look ! 8 refl)) (and-then ! (load ! (from ! (stop !)) (look ! 10 refl)) (no-more !))) (λ u.
         use1 W (later (some (λ (r : Fed). ((‵ (flft κ′ q′) ⊛ ‵ ftrue) ⊛ ‵ (T.the-row .own r (u ∷ []))) ⊛ raw (ensured 𝓤 H A feed.ended (feed.clauses 𝓤 H A at-mem run) (κ′, tt) (h, (s, tt)) tt r)))) (id⊢ 𝓤 _) $ await ! tt $ pick ! (λ r.
         split ! $ move ! (1 ∷ []) $ use1 W (raw (fact 𝓤 (Feeds h (now s) r))) (F.said 𝓤 H A W at-mem run κ′ q′ h s r) $ heard ! (Feeds h (now s) r) (λ e. split ! $ move ! (1 ∷ []) $
         facts ! T.the-row (Is T.the-row) (shows 𝓤 H A T.the-row) r (u ∷ []) (λ is.
-        -- [the slice's token; what it owns; the reader's cell; the open borrow; obs; auth; room for _4; …; _3; …; _2; …; _1; …; room for _0; …; true]
+        -- [the slice's token; what it owns; the reader's cell; the open borrow; obs; auth; room for _4; …; _3; …; _2;
+        -- …; _1; …; room for _0; …; true]
         land ! (from ! (stop !)) (init ! 6 refl (LL.lawful T.the-type T′.the-laws 𝓤 H A W .typed r _ is .0)) $
         rewrite ! 6 (λ (w : Val). ‵ (fat fullShare T′.mir l₄ 0 w)) (ap only (T′.lowers .val-is r (u ∷ []) is)) refl $
         assigns ! (of-opd ! (load ! (from ! (fld ! refl (stop !))) (look-in ! 6 (sub ! 0 refl (whole !))))) (from ! (hop ! (look ! 12 refl) (stop !))) (store-raw ! 2 refl (reader-typed 𝓤 H A W (r .reader) (read-back r u is))) $

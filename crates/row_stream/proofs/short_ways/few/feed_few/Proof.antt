@@ -1,5 +1,5 @@
--- `row_stream::short_ways::few::feed_few` meets its contract: the held bytes and the few stand at the front of the places, so what the search has
--- found and laid there is what the call does.
+-- `row_stream::short_ways::few::feed_few` meets its contract: the held bytes and the few stand at the front of the
+-- places, so what the search has found and laid there is what the call does.
 -- Assumes nothing.
 use Prim.Native.Nat.{ℕ, _+_, _-_, _≤_}
 use mathlib.Core.Path.{_≡_, sym, ap, _∙_}

@@ -1,4 +1,5 @@
--- `row_stream::short_ways::front::front_reply` meets its contract: the bytes that the count needs are a good frame, and its row is laid.
+-- `row_stream::short_ways::front::front_reply` meets its contract: the bytes that the count needs are a good frame, and
+-- its row is laid.
 -- Assumes nothing.
 use Prim.Native.Nat.{ℕ, _≤_}
 use mathlib.Core.Path.{_≡_, sym, ap, subst, _∙_}

@@ -1,4 +1,5 @@
--- `row_stream::short_ways::going::goes_on` meets its contract: of a report or a sentence that goes on, the first start stays undecided.
+-- `row_stream::short_ways::going::goes_on` meets its contract: of a report or a sentence that goes on, the first start
+-- stays undecided.
 -- Assumes nothing.
 use mathlib.Core.Bool.{false≢true}
 use borrow.Author.Needs.{needs}

@@ -1,14 +1,14 @@
--- `row_stream::short_ways::row_search::seek_row` meets its contract: a report that has begun and is not whole is undecided, and else the walk has
--- come to what is sought.
+-- `row_stream::short_ways::row_search::seek_row` meets its contract: a report that has begun and is not whole is
+-- undecided, and else the walk has come to what is sought.
 -- Assumes nothing.
-use mathlib.Core.Path.{_≡_, refl, sym, ap, _∙_}
+use mathlib.Core.Path.{refl, ap, _∙_}
 use borrow.Author.Tests.{ltb-true, ltb-false}
 use lib.Dec.{ltb}
 use lib.ListN.{length}
 use Rattle.frame_laws.proofs.Bytes.{both}
 use Rattle.rows.specs.Rows.{front}
 use Rattle.spe.proofs.Beginning.{begun}
-use Rattle.search.specs.Sought.{soughtIn, Stops}
+use Rattle.search.specs.Sought.{Stops}
 use Rattle.row_stream.specs.RowSought.{stopOf, rowOf}
 use Rattle.search.specs.declared.Sought.{Sought}
 use Rattle.search.proofs.Searching.{waiting, begun-waits}

@@ -1,5 +1,5 @@
--- `row_stream::short_ways::row_search::walk` meets its contract. The loop's invariant: the walk from the first start on has come to the stop, and nothing is
--- laid. The measure is what is left of the bytes.
+-- `row_stream::short_ways::row_search::walk` meets its contract. The loop's invariant: the walk from the first start on
+-- has come to the stop, and nothing is laid. The measure is what is left of the bytes.
 -- Assumes nothing.
 use Prim.Native.Nat.{ℕ, _+_, _-_, _≤_, _<_}
 use mathlib.Core.Path.{_≡_, refl, sym, ap, _∙_}

@@ -1,17 +1,16 @@
 // What is known of a start before a frame is read there: a bad start with the number of bytes that settled
 // it, an undecided one, or as many bytes as a frame there has. The frame is read by whoever wants it.
-use crate::families::is_spe;
-use crate::marks::bytes_needed;
-use crate::marks::mark_of;
-use crate::marks::payload_bytes;
 use rules::LONGEST_PAYLOAD;
+use starts::bytes_needed;
+use starts::mark_of;
+use starts::payload_bytes;
 ghost use mathlib.Core.Path.{_≡_};
 ghost use mathlib.Core.Bool.{true};
 ghost use Rattle.rules.specs.Answers.{sentences};
 ghost use Rattle.stream_rules.specs.Heads.{isSpe};
-ghost use Rattle.starts.specs.Seen.{seen};
+ghost use Rattle.search.specs.Seen.{seen};
 
-pub enum Seen {
+pub(crate) enum Seen {
     // so many bytes, which the reader of one frame decides as a whole
     Whole(usize),
     // a bad start: how many bytes settled that
@@ -20,7 +19,7 @@ pub enum Seen {
 }
 
 // A start of an SPE family.
-fn examine_packet(family: u8, s: &[u8]) -> Seen
+pub(crate) fn examine_packet(family: u8, s: &[u8]) -> Seen
     requires { ⌜ isSpe family ≡ true ⌝ }
     ensures { λ r. ⌜ r ≡ seen family (now (s .entry)) ⌝ }
 {
@@ -57,7 +56,7 @@ fn examine_packet(family: u8, s: &[u8]) -> Seen
 }
 
 // A start of the Alpha's family.
-fn examine_sentence(s: &[u8]) -> Seen
+pub(crate) fn examine_sentence(s: &[u8]) -> Seen
     ensures { λ r. ⌜ r ≡ seen sentences (now (s .entry)) ⌝ }
 {
     if s.len() == 0 {
@@ -80,14 +79,4 @@ fn examine_sentence(s: &[u8]) -> Seen
         return Seen::Undecided;
     }
     Seen::Whole(n + 6)
-}
-
-// What is known of the start of the bytes, read as a stream of the family.
-pub fn examine(family: u8, s: &[u8]) -> Seen
-    ensures { λ r. ⌜ r ≡ seen family (now (s .entry)) ⌝ }
-{
-    if is_spe(family) {
-        return examine_packet(family, s);
-    }
-    examine_sentence(s)
 }

@@ -1,4 +1,4 @@
--- `lister::steps::sentence_size` meets its contract: the payload declares a length, and as many bytes are a good frame or none.
+-- `lister::steps::sentence_length` meets its contract: the payload declares a length, and as many bytes are a good frame or none.
 -- Assumes nothing.
 use Prim.Native.Nat.{ℕ, _+_, min, _<_, _≤_}
 use Prim.Native.Char.{code}
@@ -14,9 +14,9 @@ use Rattle.stream_laws.proofs.Heads.{good-head}
 use Rattle.stream_laws.proofs.SentenceStarts.{no-dollar, no-star}
 use Rattle.stream_laws.proofs.Starts.{NotGood, bad-not-good}
 use Rattle.frames.proofs.Families.{family2}
-use Rattle.lister.proofs.Sizes.{size-none, not-declared, size-good, size-refused}
-use Rattle.lister.proofs.steps.sentence_size.Statement.{statement}
-use Rattle.lister.proofs.steps.sentence_size.Tie as tie
+use Rattle.lister.proofs.GoodLengths.{length-none, not-declared, length-good, length-refused}
+use Rattle.lister.proofs.steps.sentence_length.Statement.{statement}
+use Rattle.lister.proofs.steps.sentence_length.Tie as tie
 
 module _ (bs : List ℕ) (n : ℕ) (counted : n ≡ min (length (payloadRun (drop 1 bs))) 129) where
   -- a longer payload than 128 bytes makes no frame
@@ -48,7 +48,7 @@ module _ (c : tie.After-is-sentence) where
 returns : tie.Need-returns
 returns c =
     let start = c .before .before in
-    size-none 2 (start .args .s .now) (too-long (start .args .s .now) (start .args .n) (start .pre) (c .if1 .taken))
+    length-none 2 (start .args .s .now) (too-long (start .args .s .now) (start .args .n) (start .pre) (c .if1 .taken))
 
 add-if2 : tie.Need-add-if2
 add-if2 c = search needs
@@ -57,7 +57,7 @@ returns-2 : tie.Need-returns-2
 returns-2 c =
     let start = c .before .before .before in
     let a = start .args in
-    size-none 2 (a .s .now)
+    length-none 2 (a .s .now)
     (not-declared 2 (a .s .now) (a .n + 6) (declared (a .s .now) (a .n) (start .pre) (omega (arith, c .before .if1 .left))) (c .if2 .taken))
 
 add-if3 : tie.Need-add-if3
@@ -70,7 +70,7 @@ returns-3 : tie.Need-returns-3
 returns-3 c =
     let start = c .before .before .before .before .before in
     let a = start .args in
-    size-none 2 (a .s .now) (no-end (a .s .now) (a .n) (start .pre) (omega (arith, c .before .before .before .if1 .left)) (omega (arith, c .before .before .if2 .left)) (c .if3 .taken))
+    length-none 2 (a .s .now) (no-end (a .s .now) (a .n) (start .pre) (omega (arith, c .before .before .before .if1 .left)) (omega (arith, c .before .before .if2 .left)) (c .if3 .taken))
 
 add-text : tie.Need-add-text
 add-text c = search needs
@@ -85,17 +85,17 @@ add-result : tie.Need-add-result
 add-result c = search needs
 
 returns-4 : tie.Need-returns-4
-returns-4 c = let a = start (c .before) .args in size-good 2 (a .s .now) (a .n + 6) (omega (arith, c .before .before .before .before .before .if2 .left)) (tested (c .before) ∙ c .if4 .taken)
+returns-4 c = let a = start (c .before) .args in length-good 2 (a .s .now) (a .n + 6) (omega (arith, c .before .before .before .before .before .if2 .left)) (tested (c .before) ∙ c .if4 .taken)
 
 returns-5 : tie.Need-returns-5
 returns-5 c =
     let a = start (c .before) .args in
-    size-refused 2 (a .s .now) (a .n + 6)
+    length-refused 2 (a .s .now) (a .n + 6)
     (declared (a .s .now) (a .n) (start (c .before) .pre) (omega (arith, c .before .before .before .before .before .before .if1 .left)))
     (tested (c .before) ∙ c .if4 .left)
 
-pub sentence-size-spec : {M : Type 1} → statement M
-sentence-size-spec =
+pub sentence-length-spec : {M : Type 1} → statement M
+sentence-length-spec =
     tie.close
     (tie.spec
     returns

@@ -1,4 +1,4 @@
--- `replays::script::call_size` gives no more than there is behind the place.
+-- `replays::script::call_length` gives no more than there is behind the place.
 -- Assumes nothing.
 use Prim.Native.Nat.{ℕ, _-_, _≤_}
 use mathlib.Core.Path.{_≡_, ap}
@@ -7,8 +7,8 @@ use native.Mathlib.Omega.{arith}
 use borrow.Author.Needs.{needs}
 use lib.ListN.{length, drop, length-take, length-drop}
 use Rattle.rules.specs.Bytes.{part}
-use Rattle.replays.proofs.script.call_size.Statement.{statement}
-use Rattle.replays.proofs.script.call_size.Tie as tie
+use Rattle.replays.proofs.script.call_length.Statement.{statement}
+use Rattle.replays.proofs.script.call_length.Tie as tie
 
 -- the call is what stands behind the place, up to 257 bytes
 short : (s : List ℕ) (at : ℕ) (call : List ℕ) → call ≡ part at 257 s → length call ≤ length s - at
@@ -31,14 +31,14 @@ returns-2 c =
 returns-3 : tie.Need-returns-3
 returns-3 c = search needs
 
-shared-slice-read-size : tie.Need-shared-slice-read-size
-shared-slice-read-size c = search needs
+shared-slice-read-length : tie.Need-shared-slice-read-length
+shared-slice-read-length c = search needs
 
-cast-size : tie.Need-cast-size
-cast-size c = omega (arith, c .shared-slice-known3 .given 1)
+cast-length : tie.Need-cast-length
+cast-length c = omega (arith, c .shared-slice-known3 .given 1)
 
-add-size : tie.Need-add-size
-add-size c = omega (arith, c .shared-slice-known3 .given 1)
+add-length : tie.Need-add-length
+add-length c = omega (arith, c .shared-slice-known3 .given 1)
 
 slice-aggregate-one-of : tie.Need-slice-aggregate-one-of
 slice-aggregate-one-of c = search needs
@@ -60,8 +60,8 @@ returns-6 c =
     let a = c .before .before .before .before .before .before .before .before .before .before .before .before .args in
     omega (arith, c .if5 .left, short (a .script .now) (a .at) _ (c .before .before .before .before .before .before .before .before .before .before .text .ensures .content))
 
-pub call-size-spec : {M : Type 1} → statement M
-call-size-spec =
+pub call-length-spec : {M : Type 1} → statement M
+call-length-spec =
     tie.close
     (tie.spec
     text-requires
@@ -69,9 +69,9 @@ call-size-spec =
     shared-slice-read-if2
     returns-2
     returns-3
-    shared-slice-read-size
-    cast-size
-    add-size
+    shared-slice-read-length
+    cast-length
+    add-length
     slice-aggregate-one-of
     shared-slice-read-one-of
     one-of-requires

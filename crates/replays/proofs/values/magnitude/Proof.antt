@@ -1,5 +1,5 @@
--- `replays::values::size` meets its contract: one more than a number below zero, taken from zero, fits, of the lowest one too, and
--- is one less than its distance from zero.
+-- `replays::values::magnitude` meets its contract: one more than a number below zero, taken from zero, fits, of the
+-- lowest one too, and is one less than its distance from zero.
 -- Assumes nothing.
 use Prim.Native.Nat.{zero, suc, _+_}
 use mathlib.Core.Path.{_≡_, ap, _∙_}
@@ -13,8 +13,8 @@ use mir.Syntax.{w64}
 use mir.Val.{Fits, SFits}
 use mir.ValLaws.{toZ-ofZ}
 use borrow.Author.Needs.{needs}
-use Rattle.replays.proofs.values.size.Statement.{statement}
-use Rattle.replays.proofs.values.size.Tie as tie
+use Rattle.replays.proofs.values.magnitude.Statement.{statement}
+use Rattle.replays.proofs.values.magnitude.Tie as tie
 
 record Turned (z up turned : ℤ) : Type 0 where
   next : SFits w64 up
@@ -73,7 +73,7 @@ cast-result-2 c =
 returns-2 : tie.Need-returns-2
 returns-2 c = search needs
 
-pub size-spec : {M : Type 1} → statement M
-size-spec =
+pub magnitude-spec : {M : Type 1} → statement M
+magnitude-spec =
     tie.close
     (tie.spec add-result sub-result cast-result add-result-2 returns cast-result-2 returns-2)

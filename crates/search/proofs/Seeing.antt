@@ -13,7 +13,7 @@ use borrow.Author.Tests.{eq-eqb, ne-eqb, eqb-true, eqb-false, le-leb}
 use lib.Dec.{eqb, lit≤}
 use lib.ListN.{length, take, getD}
 use Rattle.rules.specs.Codes.{packetLength}
-use Rattle.rules.specs.Answers.{sentences, readOne}
+use Rattle.rules.specs.Answers.{readOne}
 use Rattle.frame_laws.proofs.Bytes.{answer}
 use Rattle.stream_rules.specs.Heads.{isSpe, wait, bad, markOf, needs, lengthAt, undecided as waits, headOf, head}
 use Rattle.stream_laws.specs.Settled.{spe-settled, sentence-settled, settled}
@@ -22,9 +22,9 @@ use Rattle.stream_laws.proofs.Heads.{good-head}
 use Rattle.stream_laws.proofs.PacketStarts.{Marks, few-marks, needs-six}
 use Rattle.stream_laws.proofs.Runs.{run}
 use Rattle.stream_laws.proofs.SentenceStarts.{too-long}
-use Rattle.starts.specs.Seen.{seen}
-use Rattle.starts.specs.declared.heads.Seen as SeenType
-use Rattle.starts.specs.declared.heads.Seen.the-variants.{Whole, Bad, Undecided}
+use Rattle.search.specs.Seen.{seen}
+use Rattle.search.specs.declared.heads.Seen as SeenType
+use Rattle.search.specs.declared.heads.Seen.the-variants.{Whole, Bad, Undecided}
 
 -- the definition's two tests
 abbrev by : Bool → Bool → ℕ → ℕ → SeenType.Seen
@@ -46,22 +46,22 @@ is-whole false true n d k e = (refl, (refl, cc))
 is-whole false false n d k e = (refl, (cc, cc))
 
 module _ (family : ℕ) (bs : List ℕ) where
-  abbrev size : ℕ
-  size = lengthAt family bs
+  abbrev declared : ℕ
+  declared = lengthAt family bs
 
   -- the head and what is seen, by the first test
-  head-by : (b : Bool) → waits family bs ≡ b → head family bs ≡ cond b wait (headOf size (readOne family (take size bs)))
+  head-by : (b : Bool) → waits family bs ≡ b → head family bs ≡ cond b wait (headOf declared (readOne family (take declared bs)))
   unfolding head
   head-by b e = rw e
 
-  seen-by : (u w : Bool) → waits family bs ≡ u → eqb (settled family bs) size ≡ w → by u w size (settled family bs) ≡ seen family bs
+  seen-by : (u w : Bool) → waits family bs ≡ u → eqb (settled family bs) declared ≡ w → by u w declared (settled family bs) ≡ seen family bs
   unfolding seen
-  seen-by u w is-u is-w = λ i. by (sym is-u i) (sym is-w i) size (settled family bs)
+  seen-by u w is-u is-w = λ i. by (sym is-u i) (sym is-w i) declared (settled family bs)
 
   -- a head that waits is undecided, and no other
   waiting : head family bs ≡ wait → waits family bs ≡ true
   waiting e =
-      ⊎-elim (λ yes. yes) (λ no. absurd (headOf-decided size (readOne family (take size bs)) (sym (head-by false no) ∙ e))) (answer (waits family bs))
+      ⊎-elim (λ yes. yes) (λ no. absurd (headOf-decided declared (readOne family (take declared bs)) (sym (head-by false no) ∙ e))) (answer (waits family bs))
 
   decided : (head family bs ≡ wait → ⊥) → waits family bs ≡ false
   decided never = ⊎-elim (λ yes. absurd (never (head-by true yes))) (λ no. no) (answer (waits family bs))
@@ -69,40 +69,40 @@ module _ (family : ℕ) (bs : List ℕ) where
   pub undecided : head family bs ≡ wait → Undecided ≡ seen family bs
   undecided e = seen-by true _ (waiting e) refl
 
-  pub bad-start : (d : ℕ) → (head family bs ≡ bad) × (settled family bs ≡ d) → (d ≡ size → ⊥) → Bad d ≡ seen family bs
+  pub bad-start : (d : ℕ) → (head family bs ≡ bad) × (settled family bs ≡ d) → (d ≡ declared → ⊥) → Bad d ≡ seen family bs
   bad-start d e other =
       ap Bad (sym (e .1))
       ∙ seen-by false false
       (decided (λ w. let z : _≡_ {A = ℕ} 0 1 = cc (e .0) in omega arith))
-      (ne-eqb (settled family bs) size (λ same. other (sym (e .1) ∙ same)))
+      (ne-eqb (settled family bs) declared (λ same. other (sym (e .1) ∙ same)))
 
-  pub by-whole : (n : ℕ) → (head family bs ≡ headOf n (readOne family (take n bs))) × (settled family bs ≡ n) → size ≡ n → Whole n ≡ seen family bs
+  pub by-whole : (n : ℕ) → (head family bs ≡ headOf n (readOne family (take n bs))) × (settled family bs ≡ n) → declared ≡ n → Whole n ≡ seen family bs
   by-whole n e is =
       ap Whole (sym is)
       ∙ seen-by false true
       (decided (λ w. headOf-decided n (readOne family (take n bs)) (sym (e .0) ∙ w)))
-      (eq-eqb (settled family bs) size (e .1 ∙ sym is))
+      (eq-eqb (settled family bs) declared (e .1 ∙ sym is))
 
   -- and back: what stands at the head, from what is seen
   pub seen-undecided : seen family bs ≡ Undecided → head family bs ≡ wait
   unfolding seen
-  seen-undecided e = head-by true (is-undecided (waits family bs) (eqb (settled family bs) size) size (settled family bs) e)
+  seen-undecided e = head-by true (is-undecided (waits family bs) (eqb (settled family bs) declared) declared (settled family bs) e)
 
   pub seen-bad : (d : ℕ) → seen family bs ≡ Bad d → (head family bs ≡ bad) × (settled family bs ≡ d)
   unfolding seen
   seen-bad d e =
-      let h = is-bad (waits family bs) (eqb (settled family bs) size) size (settled family bs) d e in
+      let h = is-bad (waits family bs) (eqb (settled family bs) declared) declared (settled family bs) d e in
       let at = head-by false (h .0) in (
-        at ∙ headOf-bad size (readOne family (take size bs)) (λ f read. eqb-false (settled family bs) size (h .1 .0) (good-head family bs size f (at ∙ ap (headOf size) read) .settles)),
+        at ∙ headOf-bad declared (readOne family (take declared bs)) (λ f read. eqb-false (settled family bs) declared (h .1 .0) (good-head family bs declared f (at ∙ ap (headOf declared) read) .settles)),
         h .1 .1,
       )
 
   pub seen-whole : (n : ℕ) → seen family bs ≡ Whole n → (head family bs ≡ headOf n (readOne family (take n bs))) × (settled family bs ≡ n)
   unfolding seen
   seen-whole n e =
-      let h = is-whole (waits family bs) (eqb (settled family bs) size) size (settled family bs) n e in (
+      let h = is-whole (waits family bs) (eqb (settled family bs) declared) declared (settled family bs) n e in (
         head-by false (h .0) ∙ ap (λ (k : ℕ). headOf k (readOne family (take k bs))) (h .1 .1),
-        eqb-true (settled family bs) size (h .1 .0) ∙ h .1 .1,
+        eqb-true (settled family bs) declared (h .1 .0) ∙ h .1 .1,
       )
 
 -- Of an SPE family: k marks and nothing more, k below four, is undecided; a start that fewer than six bytes settle is bad,
@@ -114,11 +114,11 @@ module _ (family : ℕ) (spe : isSpe family ≡ true) (bs : List ℕ) where
   pub counted : lengthAt family bs ≡ needs family (getD bs 3 0)
   counted = rw spe
 
-  pub whole-size : (n : ℕ) → 0 < n → seen family bs ≡ Whole n → packetLength ≤ n
+  pub whole-length : (n : ℕ) → 0 < n → seen family bs ≡ Whole n → packetLength ≤ n
   unfolding seen
-  whole-size n some e =
-      let size = lengthAt family bs in
-      let is : size ≡ n = is-whole (waits family bs) (eqb (settled family bs) size) size (settled family bs) n e .1 .1 in
+  whole-length n some e =
+      let declared = lengthAt family bs in
+      let is : declared ≡ n = is-whole (waits family bs) (eqb (settled family bs) declared) declared (settled family bs) n e .1 .1 in
       omega (arith, is, counted, needs-six family (getD bs 3 0) (omega (arith, is, counted, some)))
 
   pub bad-packet : (d : ℕ) → 0 < d → d < 6 → (head family bs ≡ bad) × (settled family bs ≡ d) → Bad d ≡ seen family bs
@@ -146,11 +146,6 @@ module _ (family : ℕ) (spe : isSpe family ≡ true) (bs : List ℕ) where
       λ same. eqb-false (settled family bs) (lengthAt family bs) (h .1 .0) (settled-is ∙ same ∙ sym counted) in
       let mark : ℕ → Bool = λ k. not (eqb (markOf family) (getD bs k 0)) in
       omega (arith, at-most-four (mark 0) (mark 1) (mark 2) (eqb (needs family (getD bs 3 0)) 0) (needs family (getD bs 3 0)) other, settled-is, h .1 .1)
-
--- What is no SPE packet is seen as a sentence.
-pub seen-other : (family : ℕ) (bs : List ℕ) → isSpe family ≡ false → seen sentences bs ≡ seen family bs
-unfolding seen waits settled
-seen-other family bs other = rw other
 
 -- A `$` that is seen to be a bad start was settled by the byte behind its payload bytes, or by one of them.
 pub bad-behind : (bs : List ℕ) → getD bs 0 0 ≡ code "$" → (d : ℕ) → seen 2 bs ≡ Bad d → (2 ≤ d) × (d ≤ run bs + 2)

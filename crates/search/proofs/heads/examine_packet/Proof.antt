@@ -1,4 +1,4 @@
--- `starts::heads::examine_packet` meets its contract: its tests go along the rules for an SPE start, byte by byte.
+-- `search::heads::examine_packet` meets its contract: its tests go along the rules for an SPE start, byte by byte.
 -- Assumes nothing.
 use Prim.Native.Nat.{ℕ, _+_, _≤_, _<_}
 use mathlib.Core.Path.{_≡_, sym, _∙_}
@@ -9,11 +9,11 @@ use borrow.Author.Needs.{needs as kit}
 use lib.ListN.{length, getD}
 use Rattle.stream_rules.specs.Heads.{isSpe, needs}
 use Rattle.stream_laws.proofs.PacketStarts.{Marks, no-marks, one-more, no-mark, no-count, bytes-missing, all-there}
-use Rattle.starts.specs.Seen.{seen}
-use Rattle.starts.specs.declared.heads.Seen.the-variants.{Whole, Bad, Undecided}
-use Rattle.starts.proofs.Seeing.{undecided, by-whole, few, counted, bad-packet}
-use Rattle.starts.proofs.heads.examine_packet.Statement.{statement}
-use Rattle.starts.proofs.heads.examine_packet.Tie as tie
+use Rattle.search.specs.Seen.{seen}
+use Rattle.search.specs.declared.heads.Seen.the-variants.{Whole, Bad, Undecided}
+use Rattle.search.proofs.Seeing.{undecided, by-whole, few, counted, bad-packet}
+use Rattle.search.proofs.heads.examine_packet.Statement.{statement}
+use Rattle.search.proofs.heads.examine_packet.Tie as tie
 
 -- What is known from the first test on: the family, the bytes, and the mark that they are compared with.
 module _ (k : tie.After-mark-of) where
@@ -79,28 +79,28 @@ module _ (c : tie.After-bytes-needed) where
   abbrev k : tie.After-mark-of
   k = from-three found
 
-  abbrev size : ℕ
-  size = c .bytes-needed .result
+  abbrev declared : ℕ
+  declared = c .bytes-needed .result
 
   there : 4 ≤ length (bytes k)
   there = four-there (c .before .before)
 
-  is-size : needs (family k) (getD (bytes k) 3 0) ≡ size
-  is-size = sym (c .bytes-needed .ensures)
+  is-declared : needs (family k) (getD (bytes k) 3 0) ≡ declared
+  is-declared = sym (c .bytes-needed .ensures)
 
-  not-allowed : size ≡ 0 → Bad 4 ≡ seen (family k) (bytes k)
+  not-allowed : declared ≡ 0 → Bad 4 ≡ seen (family k) (bytes k)
   not-allowed zero =
       bad-packet (family k) (spe k) (bytes k) 4 (omega arith) (omega arith)
-      (no-count (family k) (spe k) (bytes k) there (three found) (is-size ∙ zero))
+      (no-count (family k) (spe k) (bytes k) there (three found) (is-declared ∙ zero))
 
-  missing : length (bytes k) < size → Undecided ≡ seen (family k) (bytes k)
-  missing fewer = undecided (family k) (bytes k) (bytes-missing (family k) (spe k) (bytes k) there (three found) size is-size fewer)
+  missing : length (bytes k) < declared → Undecided ≡ seen (family k) (bytes k)
+  missing fewer = undecided (family k) (bytes k) (bytes-missing (family k) (spe k) (bytes k) there (three found) declared is-declared fewer)
 
-  whole : 0 < size → size ≤ length (bytes k) → Whole size ≡ seen (family k) (bytes k)
+  whole : 0 < declared → declared ≤ length (bytes k) → Whole declared ≡ seen (family k) (bytes k)
   whole some enough =
-      by-whole (family k) (bytes k) size
-      (all-there (family k) (spe k) (bytes k) there (three found) size is-size some enough)
-      (counted (family k) (spe k) (bytes k) ∙ is-size)
+      by-whole (family k) (bytes k) declared
+      (all-there (family k) (spe k) (bytes k) there (three found) declared is-declared some enough)
+      (counted (family k) (spe k) (bytes k) ∙ is-declared)
 
 mark-of-requires : tie.Need-mark-of-requires
 mark-of-requires c κs = search kit

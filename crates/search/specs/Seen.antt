@@ -5,8 +5,8 @@ use mathlib.Core.List.{List}
 use lib.Dec.{eqb}
 use Rattle.stream_rules.specs.Heads.{undecided, lengthAt}
 use Rattle.stream_laws.specs.Settled.{settled}
-use Rattle.starts.specs.declared.heads.Seen as SeenType
-use Rattle.starts.specs.declared.heads.Seen.the-variants.{Whole, Bad, Undecided}
+use Rattle.search.specs.declared.heads.Seen as SeenType
+use Rattle.search.specs.declared.heads.Seen.the-variants.{Whole, Bad, Undecided}
 
 -- A start that is not undecided is bad, unless it was settled by as many bytes as a frame there has: of those the reader
 -- of one frame decides. No other start is settled by that many: a mark or a count settles one with 1 to 4 bytes, where a

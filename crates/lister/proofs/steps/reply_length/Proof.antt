@@ -1,4 +1,4 @@
--- `lister::steps::reply_size` meets its contract: by the count, six bytes are an acknowledgement, 75 are a report, or there is
+-- `lister::steps::reply_length` meets its contract: by the count, six bytes are an acknowledgement, 75 are a report, or there is
 -- none.
 -- Assumes nothing.
 use Prim.Native.Nat.{_≤_}
@@ -10,13 +10,13 @@ use lib.ListN.{length, take}
 use lib.Seq.{length-take-le}
 use Rattle.spe.proofs.ReportFrames.{not-ended, whole-end}
 use Rattle.stream_laws.proofs.PacketStarts.{needs-report, needs-none}
-use Rattle.lister.proofs.Sizes.{size-none, too-short, not-declared}
+use Rattle.lister.proofs.GoodLengths.{length-none, too-short, not-declared}
 use Rattle.lister.proofs.Packets.{not-allowed, ack, no-ack, report, no-report}
-use Rattle.lister.proofs.steps.reply_size.Statement.{statement}
-use Rattle.lister.proofs.steps.reply_size.Tie as tie
+use Rattle.lister.proofs.steps.reply_length.Statement.{statement}
+use Rattle.lister.proofs.steps.reply_length.Tie as tie
 
 returns : tie.Need-returns
-returns c = size-none 1 _ (too-short 1 _ (c .if1 .taken))
+returns c = length-none 1 _ (too-short 1 _ (c .if1 .taken))
 
 shared-slice-read-count : tie.Need-shared-slice-read-count
 shared-slice-read-count c = search kit
@@ -37,7 +37,7 @@ returns-4 : tie.Need-returns-4
 returns-4 c = not-allowed _ 1 refl (needs-none 1 _ (c .before .if2 .left) (λ one. c .if4 .taken))
 
 returns-5 : tie.Need-returns-5
-returns-5 c = size-none 1 _ (not-declared 1 _ 75 (needs-report 1 _ refl (c .before .if4 .left)) (c .if5 .taken))
+returns-5 c = length-none 1 _ (not-declared 1 _ 75 (needs-report 1 _ refl (c .before .if4 .left)) (c .if5 .taken))
 
 ends-report-requires : tie.Need-ends-report-requires
 ends-report-requires c κs = search kit
@@ -65,8 +65,8 @@ returns-7 c = report _ (omega arith) (sym (c .before .is-status .ensures) ∙ c 
 returns-8 : tie.Need-returns-8
 returns-8 c = no-report _ (omega arith) (c .before .before .before .before .before .before .if4 .left) (sym (c .before .is-status .ensures) ∙ c .if7 .left)
 
-pub reply-size-spec : {M : Type 1} → statement M
-reply-size-spec =
+pub reply-length-spec : {M : Type 1} → statement M
+reply-length-spec =
     tie.close
     (tie.spec
     returns

@@ -15,12 +15,12 @@ use Rattle.stream_rules.specs.Heads.{shortest, lengthAt, Head, wait, bad, good,
 use Rattle.stream_rules.specs.Rule.{byHead}
 use Rattle.stream_laws.proofs.Heads.{complete, good-head}
 use Rattle.stream_laws.proofs.Starts.{NotGood}
-use Rattle.lister.specs.Sizes.{sizeAt}
+use Rattle.lister.specs.GoodLengths.{goodLength}
 
 module _ (family : ℕ) (bs : List ℕ) where
   -- no good frame: 0
-  pub size-none : NotGood (head family bs) → 0 ≡ sizeAt family bs
-  size-none none = by (head family bs) none
+  pub length-none : NotGood (head family bs) → 0 ≡ goodLength family bs
+  length-none none = by (head family bs) none
     where
       by : (h : Head) → NotGood h → 0 ≡ byHead h 0 0 (λ (n : ℕ) (f : Frame). n)
       by wait never = refl
@@ -35,16 +35,16 @@ module _ (family : ℕ) (bs : List ℕ) where
   not-declared n declared short m f e = let g = good-head family bs m f e in omega (arith, g .declared, g .there)
 
   -- The declared length, if so many bytes are a good frame.
-  pub size-good : (n : ℕ) → n ≤ length bs → isGood (readOne family (take n bs)) ≡ true → n ≡ sizeAt family bs
-  size-good n there is = by (readOne family (take n bs)) refl is
+  pub length-good : (n : ℕ) → n ≤ length bs → isGood (readOne family (take n bs)) ≡ true → n ≡ goodLength family bs
+  length-good n there is = by (readOne family (take n bs)) refl is
     where
-      by : (r : Reading) → readOne family (take n bs) ≡ r → isGood r ≡ true → n ≡ sizeAt family bs
+      by : (r : Reading) → readOne family (take n bs) ≡ r → isGood r ≡ true → n ≡ goodLength family bs
       by (Good f) e is-true = sym (ap (λ (h : Head). byHead h 0 0 (λ (k : ℕ) (g : Frame). k)) (complete family bs n f there e))
       by (Refused k) e is-true = let z : _≡_ {A = ℕ} 0 1 = cc in absurd (omega arith)
 
-  pub size-refused : (n : ℕ) → lengthAt family bs ≡ n → isGood (readOne family (take n bs)) ≡ false → 0 ≡ sizeAt family bs
-  size-refused n declared is =
-      size-none (λ m f e.
+  pub length-refused : (n : ℕ) → lengthAt family bs ≡ n → isGood (readOne family (take n bs)) ≡ false → 0 ≡ goodLength family bs
+  length-refused n declared is =
+      length-none (λ m f e.
       let g = good-head family bs m f e in
       let same : m ≡ n = g .declared ∙ declared in
       let is-true : isGood (readOne family (take n bs)) ≡ true = ap isGood (rw same at (g .read)) in
@@ -52,15 +52,15 @@ module _ (family : ℕ) (bs : List ℕ) where
       absurd (omega arith))
 
   -- A length other than 0 is that of a good frame, and 0 of none.
-  pub some-size : (n : ℕ) → n ≡ sizeAt family bs → (n ≡ 0 → ⊥) → ((f : Frame) × (head family bs ≡ good n f))
-  some-size n e some = by (head family bs) refl e
+  pub some-length : (n : ℕ) → n ≡ goodLength family bs → (n ≡ 0 → ⊥) → ((f : Frame) × (head family bs ≡ good n f))
+  some-length n e some = by (head family bs) refl e
     where
       by : (h : Head) → head family bs ≡ h → n ≡ byHead h 0 0 (λ (k : ℕ) (f : Frame). k) → ((f : Frame) × (head family bs ≡ good n f))
       by wait is p = absurd (some p)
       by bad is p = absurd (some p)
       by (good k f) is p = (f, is ∙ ap (λ (j : ℕ). good j f) (sym p))
 
-  pub no-size : 0 ≡ sizeAt family bs → NotGood (head family bs)
-  no-size e n f is =
-      let same : sizeAt family bs ≡ n = ap (λ (h : Head). byHead h 0 0 (λ (k : ℕ) (g : Frame). k)) is in
+  pub no-length : 0 ≡ goodLength family bs → NotGood (head family bs)
+  no-length e n f is =
+      let same : goodLength family bs ≡ n = ap (λ (h : Head). byHead h 0 0 (λ (k : ℕ) (g : Frame). k)) is in
       omega (arith, e, same, good-head family bs n f is .some)

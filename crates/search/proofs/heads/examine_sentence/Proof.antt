@@ -1,4 +1,4 @@
--- `starts::heads::examine_sentence` meets its contract: its tests go along the rules for a start of a sentence. A count that stops
+-- `search::heads::examine_sentence` meets its contract: its tests go along the rules for a start of a sentence. A count that stops
 -- at 129 tells as much of the payload bytes as the rules ask.
 -- Assumes nothing.
 use Prim.Native.Nat.{ℕ, _+_, min}
@@ -12,9 +12,9 @@ use Rattle.stream_rules.specs.Heads.{payloadRun}
 use Rattle.stream_laws.proofs.Lists.{whole-rest}
 use Rattle.stream_laws.proofs.Runs.{run}
 use Rattle.stream_laws.proofs.SentenceStarts.{nothing, no-dollar, too-long, payload-open, no-star, digits-missing, all-there}
-use Rattle.starts.proofs.Seeing.{undecided, bad-start, by-whole}
-use Rattle.starts.proofs.heads.examine_sentence.Statement.{statement}
-use Rattle.starts.proofs.heads.examine_sentence.Tie as tie
+use Rattle.search.proofs.Seeing.{undecided, bad-start, by-whole}
+use Rattle.search.proofs.heads.examine_sentence.Statement.{statement}
+use Rattle.search.proofs.heads.examine_sentence.Tie as tie
 
 -- With a `$` in front: the bytes, and the count of payload bytes behind it,
 module _ (k : tie.After-payload-bytes) where

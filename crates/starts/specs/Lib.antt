@@ -1,2 +1,0 @@
--- What is seen of a start before a frame is read there.
-pub mod Seen
