@@ -12,9 +12,9 @@ abbrev pub LentBytes : Type 0
 LentBytes = Both (RefT (List ℕ)) (RefT (List ℕ))
 
 -- A content that is named, of places that are 133. They are by their type, which is said here because a list has no such type.
-abbrev pub Leaves : List ℕ → List ℕ → List ℕ → Type 0
-Leaves places content exit = length places ≡ placeCount → exit ≡ content
+abbrev pub LeftWith : List ℕ → List ℕ → List ℕ → Type 0
+LeftWith places content exit = length places ≡ placeCount → exit ≡ content
 
 -- Lent places are left with a content that is made of theirs.
 abbrev pub Become : LentBytes → (List ℕ → List ℕ) → Type 0
-Become places made = Leaves (now (places .entry)) (made (now (places .entry))) (now (places .exit))
+Become places made = LeftWith (now (places .entry)) (made (now (places .entry))) (now (places .exit))

@@ -58,15 +58,15 @@ module _ (family count at skipped : ℕ) (places few bytes : List ℕ) (numbers 
   abbrev pub Kept : Stop → List ℕ → Type 0
   Kept p kept = kept ≡ filled (part (behind p) (left-of p) bytes)
 
-  abbrev Leaves : Stop → List ℕ → ℕ → List ℤ → Type 0
-  Leaves p kept passed after = FeedsRow reader few numbers 0 (readerAt family 0 (left-of p) kept (wrap (at + behind p)) passed) after
+  abbrev FedTo : Stop → List ℕ → ℕ → List ℤ → Type 0
+  FedTo p kept passed after = FeedsRow reader few numbers 0 (readerAt family 0 (left-of p) kept (wrap (at + behind p)) passed) after
 
   pub record FewAt (after : List ℤ) (p : Stop) : Type 0 where
     pub order : behind p ≤ p .reach
     pub within : p .reach ≤ length bytes
     pub short : left-of p < longest family
-    pub waits : p .length ≡ 0 → (kept : List ℕ) → Kept p kept → Leaves p kept (wrap (skipped + behind p)) after
-    pub hands : (p .length ≡ 0 → ⊥) → (kept : List ℕ) → Kept p kept → Leaves p kept 0 after
+    pub waits : p .length ≡ 0 → (kept : List ℕ) → Kept p kept → FedTo p kept (wrap (skipped + behind p)) after
+    pub hands : (p .length ≡ 0 → ⊥) → (kept : List ℕ) → Kept p kept → FedTo p kept 0 after
 
   -- a call that the bytes make is the call on the few
   few-fed : (kept : List ℕ) (m : Moved) → Opens family at skipped (callOn family bytes count) kept m → fed reader few ≡ fedAt family 0 kept m

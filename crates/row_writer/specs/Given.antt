@@ -8,7 +8,7 @@ use lib.Dec.{eqb, leb}
 use lib.IntN.{ℤ, pos, negsuc, natAbs}
 use lib.ListN.{length, take, drop, getD}
 use Rattle.rules.specs.Bytes.{every}
-use Rattle.rules.specs.Answers.{saidToWrite, written, leaves, noRecord, kindOf, allowed, notAllowed, bytesOf}
+use Rattle.rules.specs.Answers.{saidToWrite, written, outputAfter, noRecord, kindOf, allowed, notAllowed, bytesOf}
 use Rattle.rules.specs.declared.Status as StatusType
 use Rattle.rules.specs.declared.Sentence02.{Sentence02}
 use Rattle.rules.specs.declared.Sentence03.{Sentence03}
@@ -173,7 +173,7 @@ lengthOr before (Refused n) = before
 
 pub record WritesNumbers (may : Bool) (n : ℕ) (frame out : List ℕ) (before answer : ℕ) (outAfter : List ℕ) (after : ℕ) : Type 0 where
   pub answers : answer ≡ refusalOf (saidToWrite (written may n frame out))
-  pub content : outAfter ≡ leaves may frame out
+  pub content : outAfter ≡ outputAfter may frame out
   pub told : after ≡ lengthOr before (written may n frame out)
 
 abbrev pub WritesGiven : ℕ → ℕ → List ℤ → List ℕ → ℕ → ℕ → List ℕ → ℕ → Type 0

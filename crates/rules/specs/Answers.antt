@@ -155,13 +155,13 @@ pub record Reads (family : ℕ) (bytes : List ℕ) (answer : Reading) : Type 0 w
 abbrev pub written : Bool → ℕ → List ℕ → List ℕ → Written
 written allowed n frame out = cond allowed (cond (leb (length frame) (length out)) (Length (length frame)) (NotWritten noRoom)) (NotWritten n)
 
-abbrev pub leaves : Bool → List ℕ → List ℕ → List ℕ
-leaves allowed frame out = cond (allowed && leb (length frame) (length out)) (frame ++ drop (length frame) out) out
+abbrev pub outputAfter : Bool → List ℕ → List ℕ → List ℕ
+outputAfter allowed frame out = cond (allowed && leb (length frame) (length out)) (frame ++ drop (length frame) out) out
 
 pub record Writes (allowed : Bool) (n : ℕ) (frame out : List ℕ) (answer : Written) (after : List ℕ) : Type 0 where
   pub answers : answer ≡ written allowed n frame out
   pub says : saidToWrite answer ≡ cond (not allowed) (no n) (cond (not (leb (length frame) (length out))) (no noRoom) (yes lengthWritten (pos (length frame) ∷ [])))
-  pub content : after ≡ leaves allowed frame out
+  pub content : after ≡ outputAfter allowed frame out
 
 -- the family that reads frames of a kind
 abbrev pub familyOf : Kind → ℕ

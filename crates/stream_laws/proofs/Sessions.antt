@@ -86,14 +86,14 @@ taken-left most taken left p =
 abbrev handingOut : ℕ → Found → Answer
 handingOut t f = Ready (record { taken = t; start = wrap (f .start); skipped = wrap (f .skipped); length = f .length; frame = f .frame })
 
-module _ (top before after t left left′ : ℕ) (took : before + t ≡ after) (leaves : t + left′ ≡ left) (answers : List Answer) where
+module _ (top before after t left left′ : ℕ) (took : before + t ≡ after) (rest : t + left′ ≡ left) (answers : List Answer) where
   tells-ready : (f : Found) (fs fs′ : List Found) → fs ≡ f ∷ fs′ → after ≤ f .start + top
       → Tells top after left′ fs′ answers
       → Tells top before left fs (handingOut t f ∷ answers)
   unfolding every
   tells-ready f fs fs′ finds late s = record {
     list = ap (λ (l : List Found). wrapped f ∷ l) (s .list) ∙ ap (map wrapped) (sym finds);
-    all-taken = ap (λ (i : ℕ). t + i) (s .all-taken) ∙ leaves;
+    all-taken = ap (λ (i : ℕ). t + i) (s .all-taken) ∙ rest;
     in-time = subst (InTime top before (handingOut t f ∷ answers)) (sym finds) (omega arith, subst (λ (i : ℕ). InTime top i answers fs′) (sym took) (s .in-time));
     none-refused = s .none-refused;
   }
@@ -103,7 +103,7 @@ module _ (top before after t left left′ : ℕ) (took : before + t ≡ after) (
   unfolding every
   tells-more fs fs′ finds s = record {
     list = s .list ∙ ap (map wrapped) (sym finds);
-    all-taken = ap (λ (i : ℕ). t + i) (s .all-taken) ∙ leaves;
+    all-taken = ap (λ (i : ℕ). t + i) (s .all-taken) ∙ rest;
     in-time = subst₂ (λ (i : ℕ) (l : List Found). InTime top i answers l) (sym took) (sym finds) (s .in-time);
     none-refused = s .none-refused;
   }
@@ -113,7 +113,7 @@ module _ (top before after t left left′ : ℕ) (took : before + t ≡ after) (
   unfolding every
   tells-done fs finds s = record {
     list = s .list ∙ ap (map wrapped) (sym finds);
-    all-taken = ap (λ (i : ℕ). t + i) (s .all-taken) ∙ leaves;
+    all-taken = ap (λ (i : ℕ). t + i) (s .all-taken) ∙ rest;
     in-time = subst₂ (λ (i : ℕ) (l : List Found). InTime top i answers l) (sym took) (sym finds) (s .in-time);
     none-refused = s .none-refused;
   }

@@ -50,7 +50,9 @@ returns-3 c =
     let zero : c .before .before .before .lay-heading .result ≡ 0 = laid .answers ∙ rw (le-leb 6 (length (a .numbers .now)) (omega (arith, start .pre .row))) in
     let is-command = sym (c .before .before .before .before .before .before .before .is-command .ensures) ∙ not-false _ (c .before .before .before .before .before .before .if2 .left) in
     let code : getD offered 4 0 ≡ getD (take 6 offered) 4 0 = sym (getD-take 6 offered 4 0 (omega arith)) in
-    frame-there 3 (a .at) (a .skipped) (a .held .now) offered 6 _ family-3 (c .before .before .before .before .before .before .before .before .before .if1 .left) (a-command (take 6 offered) is-command) (λ six. omega (arith, six)) (a .numbers .now) _ _ (start .pre .row) (omega arith) (omega arith)
+    let whole = c .before .before .before .before .before .before .before .before .before .if1 .left in
+    frame-there 3 (a .at) (a .skipped) (a .held .now) offered 6 _ family-3 whole (a-command (take 6 offered) is-command)
+    (λ six. omega (arith, six)) (a .numbers .now) _ _ (start .pre .row) (omega arith) (omega arith)
     (laid .content ∙ rw (eq-eqb _ 0 zero) (ap (λ (k : ℕ). front (row 6 (a .at) (a .skipped) 6 (Command k)) (a .numbers .now)) code))
     (c .clear .ensures (start .pre .places))
 
