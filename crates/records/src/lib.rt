@@ -1,8 +1,7 @@
-// The records' fields as numbers, in document 01's order, what is told of a frame, and whether a record holds only what its
-// fields can carry.
+// The records' fields as numbers, in document 01's order, what is told of a frame, and whether the record of a sentence holds only
+// what its fields can carry.
 mod fields;
 mod ranges;
-mod report;
 mod told;
 
 pub use fields::of_02;
@@ -14,7 +13,6 @@ pub use ranges::WIDTHS03;
 pub use ranges::in_range02;
 pub use ranges::in_range03;
 pub use ranges::in_range05;
-pub use report::status_in_range;
 pub use told::Fields;
 pub use told::VALUE_PLACES;
 pub use told::fields_of;

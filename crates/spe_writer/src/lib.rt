@@ -1,5 +1,6 @@
-// Writers of the SPE families: acknowledgements and commands, and the status report.
+// Writers of the SPE families: acknowledgements and commands, and the status report with the ranges of its fields.
 mod packets;
+mod ranges;
 mod status;
 
 pub use packets::write_ack;

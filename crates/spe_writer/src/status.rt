@@ -1,4 +1,5 @@
 // The writer of a status report: into the lent output's front, or it refuses and leaves that as it was.
+use crate::ranges::status_in_range;
 use rules::NO_RECORD;
 use rules::NO_ROOM;
 use rules::REPORT_LENGTH;
@@ -113,7 +114,7 @@ fn lay_status(s: Status, out: &mut [u8])
 pub fn write_status(s: Status, out: &mut [u8]) -> Written
     ensures { λ r. ⌜ Writes (statusInRange s) noRecord (statusBytes s) (now (out .entry)) r (now (out .exit)) ⌝ }
 {
-    if !records::status_in_range(s) {
+    if !status_in_range(s) {
         return Written::Refused(NO_RECORD);
     }
     if out.len() < REPORT_LENGTH {

@@ -1,8 +1,8 @@
--- `records::report::by_id` meets its contract: the test of the ID picks the limit.
+-- `spe_writer::ranges::by_id` meets its contract: the test of the ID picks the limit.
 -- Assumes nothing.
 use borrow.Author.Tests.{eq-eqb, ne-eqb}
-use Rattle.records.proofs.report.by_id.Statement.{statement}
-use Rattle.records.proofs.report.by_id.Tie as tie
+use Rattle.spe_writer.proofs.ranges.by_id.Statement.{statement}
+use Rattle.spe_writer.proofs.ranges.by_id.Tie as tie
 
 returns : tie.Need-returns
 returns c = rw (eq-eqb (c .before .args .id) 20 (c .if1 .taken))

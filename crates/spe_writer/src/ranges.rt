@@ -24,7 +24,7 @@ fn bank_allowed(id: u8, bank: u8) -> bool
 }
 
 // Whether a report can hold these values.
-pub fn status_in_range(s: Status) -> bool
+pub(crate) fn status_in_range(s: Status) -> bool
     ensures { λ r. ⌜ r ≡ statusInRange s ⌝ }
 {
     let band = s.band as u32;

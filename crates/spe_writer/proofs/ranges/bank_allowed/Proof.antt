@@ -1,12 +1,12 @@
--- `records::report::bank_allowed` meets its contract: the test of the ID picks the letters.
+-- `spe_writer::ranges::bank_allowed` meets its contract: the test of the ID picks the letters.
 -- Assumes nothing.
 use mathlib.Core.Bool.{Bool, cond}
 use mathlib.Core.Path.{ap, sym, _∙_}
 use borrow.Author.Needs.{needs}
 use borrow.Author.Tests.{eq-eqb, ne-eqb}
 use Rattle.rules.specs.Bytes.{ascii, oneOf}
-use Rattle.records.proofs.report.bank_allowed.Statement.{statement}
-use Rattle.records.proofs.report.bank_allowed.Tie as tie
+use Rattle.spe_writer.proofs.ranges.bank_allowed.Statement.{statement}
+use Rattle.spe_writer.proofs.ranges.bank_allowed.Tie as tie
 
 slice-aggregate-one-of : tie.Need-slice-aggregate-one-of
 slice-aggregate-one-of c = search needs

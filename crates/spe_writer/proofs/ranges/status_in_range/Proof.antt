@@ -1,11 +1,11 @@
--- `records::report::status_in_range` meets its contract: its tests are the rules, one by one and in their order.
+-- `spe_writer::ranges::status_in_range` meets its contract: its tests are the rules, one by one and in their order.
 -- Assumes nothing.
 use mathlib.Core.Bool.{_&&_}
 use borrow.Author.Needs.{needs}
 use lib.Dec.{leb}
 use Rattle.rules.specs.Status.{statusInRange}
-use Rattle.records.proofs.report.status_in_range.Statement.{statement}
-use Rattle.records.proofs.report.status_in_range.Tie as tie
+use Rattle.spe_writer.proofs.ranges.status_in_range.Statement.{statement}
+use Rattle.spe_writer.proofs.ranges.status_in_range.Tie as tie
 
 cast-band : tie.Need-cast-band
 cast-band c = search needs
