@@ -19,6 +19,9 @@ ghost use Rattle.stream_rules.specs.Streams.{placeCount, filled};
 ghost use Rattle.pens.specs.Pens.{laid};
 ghost use Rattle.held_bytes.specs.Held.{Become};
 
+// Where the last sixteen places begin.
+const LAST_BLOCK: usize = PLACES - 16;
+
 // How many places there are: a function of its own, because a proof knows no length of an array behind a
 // reference, and has it of the slice that this is lent.
 pub fn places_in(places: &[u8]) -> usize
@@ -73,7 +76,7 @@ pub fn lay(places: &mut [u8; PLACES], at: usize, few: &[u8])
         put_bytes(places, at, few);
         return;
     }
-    if at <= 117 {
+    if at <= LAST_BLOCK {
         put_block(places, at, few);
     }
 }
@@ -112,7 +115,7 @@ fn is_clear(places: &[u8; PLACES]) -> bool
                 | places[i + 80]
                 | places[i + 96]
                 | places[i + 112]
-                | places[i + 117])
+                | places[i + LAST_BLOCK])
                 == 0);
         i += 1;
     }

@@ -64,6 +64,9 @@ fn turn_of(
     }
 }
 
+// Room for the held bytes and a piece behind them.
+const HELD_AND_PIECE: usize = 2 * PLACES;
+
 // A call on a piece, which stands with the held bytes in a buffer.
 fn take_piece(
     family: u8,
@@ -76,7 +79,7 @@ fn take_piece(
     requires { ⌜ MayHold family count (now held) × (length (now piece) ≤ placeCount) ⌝ }
     ensures { λ m. ⌜ OpensLent family held count at skipped piece m ⌝ }
 {
-    let mut work = [0u8; 266];
+    let mut work = [0u8; HELD_AND_PIECE];
     put_bytes(&mut work, 0, text(held, 0, count));
     put_bytes(&mut work, count, piece);
     let bytes = text(&work, 0, count + piece.len());

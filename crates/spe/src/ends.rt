@@ -6,6 +6,11 @@ use rules::REPORT_LENGTH;
 ghost use mathlib.Core.Path.{_≡_};
 ghost use Rattle.spe.specs.Ends.{beginsReport, endsReport};
 
+// Where the two bytes of its line end stand.
+const RETURN_PLACE: usize = REPORT_LENGTH - 2;
+
+const FEED_PLACE: usize = REPORT_LENGTH - 1;
+
 // Whether a report begins at the first byte: three marks of family 1, and the count 43.
 pub fn begins_report(s: &[u8]) -> bool
     ensures { λ r. ⌜ r ≡ beginsReport (now (s .entry)) ⌝ }
@@ -23,5 +28,5 @@ pub fn ends_report(s: &[u8]) -> bool
     if s.len() < REPORT_LENGTH {
         return false;
     }
-    (s[73] == 0x0D) & (s[74] == 0x0A)
+    (s[RETURN_PLACE] == 0x0D) & (s[FEED_PLACE] == 0x0A)
 }

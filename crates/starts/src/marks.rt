@@ -4,6 +4,7 @@ use checksums::payload_byte;
 use rules::CODE_COUNT;
 use rules::COMMAND_MARK;
 use rules::COMMANDS;
+use rules::LONGEST_PAYLOAD;
 use rules::LONGEST_SENTENCE;
 use rules::PACKET_LENGTH;
 use rules::REPLIES;
@@ -97,11 +98,14 @@ fn run_by_blocks(p: &[u8]) -> usize
     n + run_by_bytes(&p[n..])
 }
 
+// A byte more than a payload may have: more are not counted.
+const COUNTED_TO: usize = LONGEST_PAYLOAD + 1;
+
 // How many payload bytes the bytes begin with, counted to 129.
 pub fn payload_bytes(p: &[u8]) -> usize
     ensures { λ r. ⌜ r ≡ min (length (payloadRun (now (p .entry)))) 129 ⌝ }
 {
-    run_by_blocks(text(p, 0, 129))
+    run_by_blocks(text(p, 0, COUNTED_TO))
 }
 
 // Whether all of the bytes are payload bytes. The last 16 are seen as a block, which may overlap the one before it.
