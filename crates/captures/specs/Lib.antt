@@ -1,4 +1,3 @@
--- What a capture reader gives, and how it is altered. What a capture reader gives next. `GoodLengths` has how long a
--- good frame at the head is, and which starts a walk passes over, and `Fills` what the walks that fill the list give.
+-- What a capture reader gives and how it is altered, and where the next frame of a capture stands.
 pub mod Captures
 pub mod Finds

@@ -1,7 +1,6 @@
 -- Laws about the definitions, file by file as those stand; what answers say in the terms of document 01, and that each
--- promise leaves one answer. What is promised of single frames. `Exact` says what it is to be a frame of each kind;
--- `Demand2` has the theorems over all kinds; `Spe` has those of families 1 and 3, which `Report` and `Form` serve, and
--- `Alpha` those of family 2.
+-- promise leaves one answer. `Exact` says what it is to be a frame of each kind; `Spe` has the theorems of families 1 and
+-- 3, which `Report` and `Form` serve, and `Alpha` those of family 2.
 pub mod Tables
 pub mod Bytes
 pub mod Lists

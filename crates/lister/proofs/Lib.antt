@@ -1,5 +1,5 @@
 -- `GoodLengths` has the length of a good frame at the head, `Packets` that of a command and of a reply by their tests,
--- `Names` how a sentence begins, and `Skips` which starts are passed over together, and `Filling` how the list of
+-- `Names` how a sentence begins, `Skips` which starts are passed over together, and `Filling` how the list of
 -- starts is filled.
 pub mod Filling
 pub mod Names

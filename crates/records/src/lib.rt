@@ -1,5 +1,5 @@
-// The records' fields as numbers, in document 01's order, what is told of a frame, and whether the record of a sentence holds only
-// what its fields can carry.
+// The records' fields as numbers, in document 01's order, what is told of a frame, and whether the record of a
+// sentence holds only what its fields can carry.
 mod fields;
 mod ranges;
 mod told;
