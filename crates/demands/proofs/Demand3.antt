@@ -25,10 +25,10 @@ module _ (family : ℕ) (known : isFamily family ≡ true) where
   -- The rule finds the good frame that begins earliest, then the one that begins earliest right behind it, and so on; and
   -- no other list of frames is so.
   pub rule-is-earliest-first : (stream : List ℕ) → EarliestFirst family stream 0 (frames family stream)
-  rule-is-earliest-first = earliest.frames-earliest family known (facts family)
+  rule-is-earliest-first = earliest.frames-earliest family (facts family)
 
   pub earliest-first-is-the-rule : (stream : List ℕ) (fs : List Found) → EarliestFirst family stream 0 fs → fs ≡ frames family stream
-  earliest-first-is-the-rule = earliest.frames-only family known (facts family)
+  earliest-first-is-the-rule = earliest.frames-only family (facts family)
 
   module _ (t : Turned) (begins : t ≡ fresh family) (stream lengths : List ℕ) where
     -- However the first calls cut the stream, a session goes on from there to its end.

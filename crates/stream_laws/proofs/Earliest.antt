@@ -2,21 +2,19 @@
 -- exactly where no good frame begins, since the head of a list is good wherever one does. Assumes nothing.
 use Prim.Native.Nat.{ℕ, zero, suc, _+_, _-_, _≤_, _<_}
 use mathlib.Core.Path.{_≡_, refl, sym, ap, ap₂, subst, _∙_}
-use mathlib.Core.Bool.{true}
 use mathlib.Core.List.{List, [], _∷_}
 use native.Mathlib.Nat.{add-suc, add-zero}
 use native.Mathlib.Decide.{decLe}
 use native.Mathlib.Omega.{arith}
 use lib.ListN.{length, drop, length-drop}
 use lib.Seq.{drop-drop}
-use Rattle.rules.specs.Answers.{isFamily}
 use Rattle.rules.specs.declared.Frame.{Frame}
 use Rattle.stream_rules.specs.Heads.{Head, wait, bad, good, longest, head}
 use Rattle.stream_rules.specs.Rule.{Found, rule}
 use Rattle.stream_rules.specs.Lister.{frames}
 use Rattle.stream_laws.specs.Earliest.{GoodAt, NoneBetween, EarliestFirst}
 use Rattle.stream_laws.proofs.Facts.{Facts}
-use Rattle.stream_laws.proofs.Finds.{head-reads, finds}
+use Rattle.stream_laws.proofs.Heads.{complete, good-head}
 use Rattle.stream_laws.proofs.Looks.{found, rule-good, rule-bad, rule-wait}
 
 rest-behind : (bs : List ℕ) (from k b : ℕ) (rest : List ℕ) → drop (from + k) bs ≡ b ∷ rest → drop (from + suc k) bs ≡ rest
@@ -24,15 +22,15 @@ rest-behind bs from k b rest e =
     let place : from + suc k ≡ from + k + 1 = omega arith in
     ap (λ (i : ℕ). drop i bs) place ∙ sym (drop-drop 1 (from + k) bs) ∙ ap (drop 1) e
 
-module _ (family : ℕ) (known : isFamily family ≡ true) (facts : Facts (head family) (longest family)) (bs : List ℕ) where
+module _ (family : ℕ) (facts : Facts (head family) (longest family)) (bs : List ℕ) where
   good-at-head : (j n : ℕ) (f : Frame) → GoodAt family bs j n f → head family (drop j bs) ≡ good n f
-  good-at-head j n f g = finds family known (drop j bs) n f (rw (length-drop j bs) (omega (arith, g .inside))) (g .reads)
+  good-at-head j n f g = complete family (drop j bs) n f (rw (length-drop j bs) (omega (arith, g .inside))) (g .reads)
 
   head-good-at : (j n : ℕ) (f : Frame) → head family (drop j bs) ≡ good n f → GoodAt family bs j n f
   head-good-at j n f e =
       let size = facts .fits (drop j bs) n f e in
       let whole : n ≤ length bs - j = rw (length-drop j bs) at (size .2) in
-      record { inside = omega (arith, size .0); reads = head-reads family (drop j bs) n f e }
+      record { inside = omega (arith, size .0); reads = good-head family (drop j bs) n f e .read }
 
   none-at : (from k : ℕ) → NoneBetween family bs from (from + k) → ((n : ℕ) (f : Frame) → head family (drop (from + k) bs) ≡ good n f → ⊥)
       → NoneBetween family bs from (from + suc k)

@@ -2,9 +2,9 @@
 -- Laws for code that looks at many bytes at once. `Starts` is for a walk over the starts of a list, `Calls` for the answer
 -- of a call, and `Jump` for how many bytes a call takes.
 -- Demand 3. `Facts` is what a family owes. Over any family that has them, `Looks` and `Calls` say what a call does,
--- `States` what the state of a reader is; `Sessions` has demand 3, and `Possible` that there are such sessions. `Finds` and
--- `Earliest` tie the rule to the good frames of demand 2, `Listing` the lister to the reader. `Saying` has what the
--- answers say in the terms of document 01, and `Single` that each promise leaves one answer.
+-- `States` what the state of a reader is; `Sessions` has demand 3, and `Possible` that there are such sessions. `Earliest`
+-- ties the rule to the good frames of demand 2, `Listing` the lister to the reader. `Saying` has what the answers say in
+-- the terms of document 01, and `Single` that each promise leaves one answer.
 pub mod Lists
 pub mod Course
 pub mod Numbers
@@ -25,7 +25,6 @@ pub mod Calls
 pub mod States
 pub mod Sessions
 pub mod Possible
-pub mod Finds
 pub mod Earliest
 pub mod Listing
 pub mod Saying

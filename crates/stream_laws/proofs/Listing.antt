@@ -24,7 +24,7 @@ use Rattle.stream_rules.specs.declared.Listed.the-variants.{Count, Refused}
 use Rattle.stream_rules.specs.declared.Turned.{Turned}
 use Rattle.stream_laws.specs.Sessions.{Session, handed, wrapped}
 use Rattle.stream_laws.proofs.Facts.{Facts}
-use Rattle.stream_laws.proofs.Finds.{head-reads}
+use Rattle.stream_laws.proofs.Heads.{good-head}
 use Rattle.stream_laws.proofs.Looks.{found, drains, rule-drains}
 use Rattle.stream_laws.proofs.Sessions.{demand3}
 
@@ -110,7 +110,7 @@ frames-read family bs =
     (λ f. readOne family (part (f .start) (f .length) bs) ≡ Good (f .frame))
     (λ f s.
     ap (λ (i : ℕ). readOne family (part i (f .length) bs)) (s .starts ∙ zero-add (s .place))
-    ∙ head-reads family (drop (s .place) bs) (f .length) (f .frame) (s .here))
+    ∙ good-head family (drop (s .place) bs) (f .length) (f .frame) (s .here) .read)
     (frames family bs)
     (rule-stands (head family) 0 0 0 bs)
 
