@@ -1,8 +1,9 @@
 /* Makes good frames by chance, for captures.
  *
  * The mix of frames, since their sizes differ much:
- *   family 1: 7 in 8 are reports of 75 bytes, 1 in 8 acknowledgements of 6;
- *             so about 99 bytes in 100 belong to reports.
+ *   family 1: 7 in 8 are reports, one half of them 75 bytes, the other 76
+ *             with a comma before the line end; 1 in 8 are acknowledgements
+ *             of 6.  So about 99 bytes in 100 belong to reports.
  *   family 2: 8 in 16 are sentence 02 (mostly 63 bytes), 4 in 16 are 03
  *             (mostly 50), 2 in 16 are 05 (32), 2 in 16 are others of 11 to
  *             134 bytes.  1 in 8 of the 02 and 03 has fields of any allowed
@@ -154,7 +155,7 @@ static void put_readings(struct frame *f, uint64_t *state, int is_20k)
 
 static void report(struct frame *f, uint64_t *state)
 {
-    int is_20k = below(state, 2) == 0;
+    int is_20k = below(state, 2) == 0, comma = below(state, 2) == 0;
     unsigned sum = 0;
     size_t i;
 
@@ -170,6 +171,8 @@ static void report(struct frame *f, uint64_t *state)
         sum += f->bytes[i];
     put(f, sum % 256);
     put(f, sum / 256);
+    if (comma)
+        put(f, ',');
     put(f, 0x0D);
     put(f, 0x0A);
 }

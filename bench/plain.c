@@ -13,8 +13,9 @@
 
 #define LONGEST_CAPTURE 65536u
 #define SHORTEST_PACKET 6u            /* acknowledgement or command */
-#define REPORT_LENGTH 75u
+#define REPORT_LENGTH 75u             /* one more with the comma */
 #define REPORT_DATA 67u
+#define BEHIND_SUM 73u                /* where a report may have a comma */
 #define SHORTEST_SENTENCE 11u         /* $, APAnn, *, four digits */
 #define LONGEST_PAYLOAD 128u
 #define MOST_FRAMES (LONGEST_CAPTURE / SHORTEST_PACKET)
@@ -58,20 +59,16 @@ static int report_joins(const unsigned char *data)
         && (data[BAND] == '0' || data[BAND + 1] <= top);
 }
 
-/* Whether a report with its marks and count already seen is good, from its
- * data on.  The first comma and the line end are looked at before the rest:
- * they turn away nearly all that only looks like a report.  That leaves 66
- * bytes of data, taken in pairs to halve the cost of the loop itself. */
-static int good_report(const unsigned char *data)
+/* Whether the data of a report and the two check bytes behind it are good, the
+ * first comma being seen already.  That leaves 66 bytes of data, taken in
+ * pairs to halve the cost of the loop itself. */
+static int good_data(const unsigned char *data)
 {
-    const uint32_t *layout;
+    const uint32_t *layout = data[1] == '2' ? layout_20k : layout_13k;
     uint32_t fits = ALL_SETS;
     unsigned sum = ',';
     size_t i;
 
-    if (data[0] != ',' || data[69] != 0x0D || data[70] != 0x0A)
-        return 0;
-    layout = data[1] == '2' ? layout_20k : layout_13k;
     for (i = 1; i < REPORT_DATA; i += 2) {
         fits &= sets_of[data[i]] | layout[i];
         sum += data[i];
@@ -80,6 +77,23 @@ static int good_report(const unsigned char *data)
     }
     return fits == ALL_SETS && data[67] == (sum & 0xFF)
         && data[68] == sum >> 8 && report_joins(data);
+}
+
+/* The length of the good report whose marks and count stand at s, with left
+ * bytes from there on; 0 if it is not good.  The byte behind the check bytes
+ * alone tells which form it has.  The first comma and the line end are looked
+ * at before the rest: they turn away nearly all that only looks like a report,
+ * most of it by a byte of the line end that is 0A or 0D in either form. */
+static size_t report_length(const unsigned char *s, size_t left)
+{
+    size_t length;
+
+    if (left < REPORT_LENGTH || s[4] != ',' || s[BEHIND_SUM + 1] > 0x0D)
+        return 0;
+    length = REPORT_LENGTH + (s[BEHIND_SUM] == ',');
+    if (left < length || s[length - 2] != 0x0D || s[length - 1] != 0x0A)
+        return 0;
+    return good_data(s + 4) ? length : 0;
 }
 
 /* The first place from p on with three marks and then some other byte, or n
@@ -126,7 +140,7 @@ static size_t list_commands(const unsigned char *s, size_t n,
 static size_t packet_length(const unsigned char *s, size_t left)
 {
     if (s[3] == 0x43)
-        return left >= REPORT_LENGTH && good_report(s + 4) ? REPORT_LENGTH : 0;
+        return report_length(s, left);
     if (s[3] == 1 && s[4] == s[5] && (code_uses[s[4]] & ACKNOWLEDGED))
         return SHORTEST_PACKET;
     return 0;

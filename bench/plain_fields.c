@@ -9,7 +9,7 @@
 
 /* ---- Layouts ------------------------------------------------------------ */
 
-/* From the data to the line end.  The sum is any two bytes here. */
+/* The data.  What is behind it has no ranges. */
 #define REPORT(AT, id1, id2, bank, banks, antenna, last) \
     C_(AT) IS(AT, id1) IS(AT, id2) IS(AT, 'K') C_(AT) UPPER_CASE(AT) \
     C_(AT) UPPER_CASE(AT) C_(AT) AT(bank, banks) C_(AT) AT('1', '2') \
@@ -19,8 +19,7 @@
     C_(AT) N2(AT) P_(AT) N_(AT) C_(AT) N2(AT) P_(AT) N_(AT) F3(AT) \
     C_(AT) AT('0', last) AT('0', last) AT('0', last) \
     C_(AT) AT('0', last) AT('0', last) AT('0', last) \
-    C_(AT) UPPER_CASE(AT) C_(AT) UPPER_CASE(AT) C_(AT) \
-    ANY(AT) ANY(AT) IS(AT, 0x0D) IS(AT, 0x0A)
+    C_(AT) UPPER_CASE(AT) C_(AT) UPPER_CASE(AT) C_(AT)
 #define REPORT_20K(AT) REPORT(AT, '2', '0', 'x', 'x', '6', '9')
 /* The 1.3K-FA has a bank, fewer antennas, and two temperatures that are 0. */
 #define REPORT_13K(AT) REPORT(AT, '1', '3', 'A', 'B', '4', '0')
@@ -53,7 +52,7 @@ enum {
 /* A space may stand for a digit in the first places of a number.  There the
  * mask has the bit that makes a space a nought. */
 #define S_ 0x10
-static const uint8_t spaces[71] = {
+static const uint8_t spaces[LONGEST_LAYOUT] = {
     [WATTS] = S_, [WATTS + 1] = S_, [WATTS + 2] = S_, [SWR_ATU] = S_,
     [SWR_ANT] = S_, [VOLTS] = S_, [AMPERES] = S_, [UPPER] = S_, [UPPER + 1] = S_,
     [LOWER] = S_, [LOWER + 1] = S_, [COMBINER] = S_, [COMBINER + 1] = S_
@@ -65,13 +64,14 @@ static inline block data_fits(block v, const struct ranges *r, size_t i)
 }
 
 /* Whether each byte is in its range and the sum is right.  The data ends in a
- * comma, the alarm and a comma, which the four blocks that are summed leave. */
+ * comma, the alarm and a comma, which the four blocks that are summed leave;
+ * the block that settles those reaches back over bytes that were looked at. */
 static inline int fits_and_sums(const uint8_t *d)
 {
     const struct ranges *r = &reports[d[1] == '2'];
     block a = block_at(d), b = block_at(d + 16), c = block_at(d + 32), e = block_at(d + 48);
     block fit = data_fits(a, r, 0) & data_fits(b, r, 16) & data_fits(c, r, 32)
-              & data_fits(e, r, 48) & data_fits(block_at(d + 55), r, 55);
+              & data_fits(e, r, 48) & data_fits(block_at(d + 51), r, 51);
     unsigned sum = sum_of_pairs(EVENS((pairs)a) + ODDS((pairs)a) + EVENS((pairs)b) + ODDS((pairs)b)
                                 + EVENS((pairs)c) + ODDS((pairs)c) + EVENS((pairs)e)
                                 + ODDS((pairs)e));
@@ -97,7 +97,7 @@ static inline int joins(const uint8_t *d)
     return ((fault & 0x10) == 0) & letters & ((d[BAND] == '0') | (d[BAND + 1] <= top));
 }
 
-static void lay_report(const uint8_t *d, int64_t *v)
+static void lay_report(const uint8_t *d, int64_t comma, int64_t *v)
 {
     v[AMP_STATUS_ID] = 13 + (d[1] == '2') * 7;
     v[AMP_STATUS_STATE] = d[STATE];
@@ -119,18 +119,24 @@ static void lay_report(const uint8_t *d, int64_t *v)
     v[AMP_STATUS_COMBINER] = three(d + COMBINER);
     v[AMP_STATUS_WARNING] = d[WARNING];
     v[AMP_STATUS_ALARM] = d[ALARM];
+    v[AMP_STATUS_COMMA] = comma;
 }
 
 /* The first comma and the line end are looked at before the rest: they turn
- * away nearly all that only looks like a report. */
+ * away nearly all that only looks like a report, most of it by a byte of the
+ * line end that is 0A or 0D in either form. */
 int read_report(const uint8_t *b, int64_t *row)
 {
     const uint8_t *d = b + 4;
+    int64_t comma = d[SUM + 2] == ',';
+    const uint8_t *end = d + SUM + 2 + comma;
 
-    if (d[0] != ',' || d[SUM + 2] != 0x0D || d[SUM + 3] != 0x0A || !fits_and_sums(d) || !joins(d))
+    if (d[0] != ',' || d[SUM + 3] > 0x0D)
+        return 0;
+    if (end[0] != 0x0D || end[1] != 0x0A || !fits_and_sums(d) || !joins(d))
         return 0;
     row[AMP_KIND] = AMP_STATUS;
     row[AMP_CODE] = 0;
-    lay_report(d, row + AMP_VALUES);
+    lay_report(d, comma, row + AMP_VALUES);
     return 1;
 }

@@ -5,8 +5,9 @@
 #include <stddef.h>
 #include <stdint.h>
 
-/* Whether the 75 bytes at b are a good report.  If so, its kind, its code and
- * its values are laid in the row, which has room; else nothing is. */
+/* Whether a good report stands at b: of 76 bytes where the byte behind its check
+ * bytes is a comma, else of 75, which have to be there.  If so, its kind, its
+ * code and its values are laid in the row, which has room; else nothing is. */
 int read_report(const uint8_t *b, int64_t *row);
 
 /* The same for the sentence whose star is the byte b[star], all before it but

@@ -9,16 +9,23 @@
 enum { PACKETS = 1, SENTENCES = 2, COMMANDS = 3 };
 enum {
     SHORT_PACKET = 6, REPORT_LENGTH = 75,
+    LONGEST_REPORT = 76, BEHIND_SUM = 73,     /* with a comma, which stands there */
     LONGEST_PAYLOAD = 128, BEHIND_STAR = 4, LONGEST_SENTENCE = 134, HELD = 133
 };
 
 /* The most bytes that each family holds. */
-static const uint8_t limits[4] = {0, REPORT_LENGTH - 1, HELD, SHORT_PACKET - 1};
+static const uint8_t limits[4] = {0, LONGEST_REPORT - 1, HELD, SHORT_PACKET - 1};
 
 /* The marks and an allowed count, the first mark lowest. */
 #define COMMAND_MARKS UINT64_C(0x01555555)
 #define PACKET_MARKS UINT64_C(0x01AAAAAA)
 #define REPORT_MARKS UINT64_C(0x43AAAAAA)
+
+/* How many bytes decide a report that has this one behind its check bytes. */
+WITHIN size_t report_length(uint8_t behind_sum)
+{
+    return REPORT_LENGTH + (behind_sum == ',');
+}
 
 /* Any call on any state, offering any bytes, with a row of any length. */
 uint32_t settle(amp_reader *reader, const uint8_t *offered, size_t n,

@@ -27,8 +27,9 @@
 #define ANY(AT) AT(0, 255)
 
 #define RANGES(layout) {{layout(LOW)}, {layout(SPAN)}}
+#define LONGEST_LAYOUT 67u           /* that of a report's data */
 struct ranges {
-    uint8_t low[71], span[71];
+    uint8_t low[LONGEST_LAYOUT], span[LONGEST_LAYOUT];
 };
 
 /* Which of the sixteen bytes v from place i on are within their ranges. */

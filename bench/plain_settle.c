@@ -63,11 +63,11 @@ static inline int ends_at_packet(struct walk *w, int64_t *row)
     }
     if (s[3] != 0x43)
         return 0;
-    if (left < REPORT_LENGTH)
+    if (left < REPORT_LENGTH || left < report_length(s[BEHIND_SUM]))
         return !w->closed;
     if (!read_report(s, row))
         return 0;
-    w->length = REPORT_LENGTH;
+    w->length = report_length(s[BEHIND_SUM]);
     return 1;
 }
 
@@ -88,7 +88,7 @@ static inline block packets_near(const uint8_t *s)
  * whether there is one. */
 static inline int skip_to_marks(struct walk *w)
 {
-    for (; w->n - w->p >= BLOCK + REPORT_LENGTH; w->p += BLOCK) {
+    for (; w->n - w->p >= BLOCK + LONGEST_REPORT; w->p += BLOCK) {
         block near = packets_near(w->s + w->p);
 
         if (any_set(near)) {
@@ -101,15 +101,18 @@ static inline int skip_to_marks(struct walk *w)
 
 /* Begun reports that were skipped had to be seen whole before what stands at p
  * or behind it can be handed out: looks back for the last of them, down to
- * where the walk began. */
+ * where the walk began.  A comma makes no earlier one end behind it, for it
+ * starts at least four bytes further on.  One that a closed stretch cuts off
+ * was not waited for. */
 static void see_reports(struct walk *w, size_t from)
 {
-    size_t i = w->n < REPORT_LENGTH ? 0 : w->n - REPORT_LENGTH + 1;
+    size_t i = w->n < REPORT_LENGTH ? 0 : w->n - REPORT_LENGTH + 1, whole;
 
-    for (i = i < w->p ? i : w->p; i-- > from && i + REPORT_LENGTH > w->p + SHORT_PACKET; )
+    for (i = i < w->p ? i : w->p; i-- > from && i + LONGEST_REPORT > w->p + SHORT_PACKET; )
         if (half_at(w->s + i) == REPORT_MARKS) {
-            if (w->seen < i + REPORT_LENGTH)
-                w->seen = i + REPORT_LENGTH;
+            whole = i + report_length(w->s[i + BEHIND_SUM]);
+            if (w->seen < whole && whole <= w->n)
+                w->seen = whole;
             return;
         }
 }

@@ -108,17 +108,22 @@ APART uint32_t feed_commands(amp_reader *reader, const uint8_t *offered, size_t 
 
 /* ---- Family 1 ----------------------------------------------------------- */
 
-/* The report that was begun is whole: it is read in place. */
+/* The report that was begun is whole, unless it has a comma and only its last
+ * byte is missing: it is read in place. */
 APART uint32_t feed_report(amp_reader *reader, const uint8_t *offered, size_t n,
                            int64_t *row, size_t row_len)
 {
     size_t count = reader->count;
+    size_t length = report_length(count > BEHIND_SUM ? reader->held[BEHIND_SUM]
+                                                     : offered[BEHIND_SUM - count]);
 
-    move_bytes(reader->held + count, offered, REPORT_LENGTH - count);
+    if (count + n < length)
+        return take_all(reader, offered, n, row);
+    move_bytes(reader->held + count, offered, length - count);
     if (!read_report(reader->held, row))
         return settle(reader, offered, n, row, row_len);
     clear_all(reader);
-    return hand_out(reader, 0, REPORT_LENGTH, REPORT_LENGTH - count, row);
+    return hand_out(reader, 0, length, length - count, row);
 }
 
 /* No report is begun in the held bytes, which are at most five, and at most
@@ -141,13 +146,15 @@ APART uint32_t feed_few(amp_reader *reader, const uint8_t *offered, size_t n,
                       row);
 }
 
-/* Nothing is held, and a report begins what is offered. */
+/* Nothing is held, and a report begins what is offered, at least 75 bytes. */
 APART uint32_t feed_at_once(amp_reader *reader, const uint8_t *offered, size_t n,
                             int64_t *row, size_t row_len)
 {
-    if (!is_clear(reader->held, 0) || !read_report(offered, row))
+    size_t length = report_length(offered[BEHIND_SUM]);
+
+    if (n < length || !is_clear(reader->held, 0) || !read_report(offered, row))
         return settle(reader, offered, n, row, row_len);
-    return hand_out(reader, 0, REPORT_LENGTH, REPORT_LENGTH, row);
+    return hand_out(reader, 0, length, length, row);
 }
 
 APART uint32_t feed_packets(amp_reader *reader, const uint8_t *offered, size_t n,
@@ -158,7 +165,7 @@ APART uint32_t feed_packets(amp_reader *reader, const uint8_t *offered, size_t n
     if (count > limits[PACKETS])
         return settle(reader, offered, n, row, row_len);
     if (count >= 4 && half_at(reader->held) == REPORT_MARKS) {
-        if (n >= REPORT_LENGTH - count)
+        if (count + n >= REPORT_LENGTH)
             return feed_report(reader, offered, n, row, row_len);
         return take_all(reader, offered, n, row);
     }

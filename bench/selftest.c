@@ -1,7 +1,7 @@
-/* Tries the lister out: on the bench cases that a list can show, on single
- * frames with fields altered and their sums put right again, on refusals, and
- * on many made captures.  Except for the bench cases the right answer comes
- * from the slow lister of slow.c.
+/* Tries the lister out: on the bench cases that a list can show, on reports that
+ * end in every way and are cut anywhere, on single frames with fields altered
+ * and their sums put right again, on refusals, and on many made captures.
+ * Except for the cases the right answer comes from the slow lister of slow.c.
  *
  *     selftest [SHARE]
  *
@@ -106,8 +106,9 @@ static void packet_cases(void)
     bench("case 11, family 3", 3, "", 0, 0, 0, 0);
 }
 
-/* A report with these 67 bytes of data and the sum put right. */
-static void wrap_report(unsigned char *b, const char *data)
+/* A report with these 67 bytes of data and the sum put right, with a comma
+ * before its line end or without; gives the length. */
+static size_t wrap_report(unsigned char *b, const char *data, int comma)
 {
     unsigned sum = 0;
     size_t i;
@@ -118,28 +119,85 @@ static void wrap_report(unsigned char *b, const char *data)
         sum += b[i];
     b[71] = (unsigned char)(sum % 256);
     b[72] = (unsigned char)(sum / 256);
-    b[73] = 0x0D;
-    b[74] = 0x0A;
+    memcpy(b + 73, comma ? ",\x0D\x0A" : "\x0D\x0A", comma ? 3 : 2);
+    return comma ? 76 : 75;
 }
 
-static void report_cases(void)
-{
-    unsigned char b[75];
+#define DATA_5 ",20K,S,R,x,2,03,2t,0r,M,0000, 0.00, 0.00, 0.0, 0.0," \
+               " 31, 29, 30,N,N,"
 
-    wrap_report(b, ",20K,S,R,x,2,03,2t,0r,M,0000, 0.00, 0.00, 0.0, 0.0,"
-                   " 31, 29, 30,N,N,");
+static void report_cases(int comma)
+{
+    unsigned char b[76];
+    size_t n = wrap_report(b, DATA_5, comma);
+
     check(b[71] == 0x6A && b[72] == 0x0D, "case 5, check bytes");
-    bench("case 5", 1, b, 75, 1, 0, 0);
-    bench("case 5, a byte short", 1, b, 74, 0, 0, 0);
+    bench("case 5", 1, b, n, 1, 0, 0);
+    bench("case 5, a byte short", 1, b, n - 1, 0, 0, 0);
     b[71] = 0x0D;
     b[72] = 0x6A;
-    bench("case 6", 1, b, 75, 0, 0, 0);
+    bench("case 6", 1, b, n, 0, 0, 0);
     wrap_report(b, ",13K,S,R,A,2,11,2t,0r,M,0000, 0.00, 0.00, 0.0, 0.0,"
-                   " 31,  0,000,N,N,");
-    bench("case 13, 13K", 1, b, 75, 1, 0, 0);
+                   " 31,  0,000,N,N,", comma);
+    bench("case 13, 13K", 1, b, n, 1, 0, 0);
     wrap_report(b, ",20K,S,R,x,2,11,2t,0r,M,0000, 0.00, 0.00, 0.0, 0.0,"
-                   " 31, 29, 30,N,N,");
-    bench("case 13, 20K", 1, b, 75, 0, 0, 0);
+                   " 31, 29, 30,N,N,", comma);
+    bench("case 13, 20K", 1, b, n, 0, 0, 0);
+}
+
+/* Case 5 up to its check bytes, of which the second is 0D, and this behind. */
+static void ends(const char *name, const char *end, size_t n, size_t many,
+                 uint32_t first, uint32_t second)
+{
+    unsigned char b[160];
+
+    wrap_report(b, DATA_5, 0);
+    memcpy(b + 73, end, n);
+    bench(name, 1, b, 73 + n, many, first, second);
+}
+
+/* What a 1.3K-FA sent on 9 July 2024, as Hamlib 4.6 prints it. */
+#define RECORDED "\xAA\xAA\xAA\x43,13K,S,R,A,1,07,2a,0r,M,0000, 0.00, 0.00," \
+                 " 0.0, 0.0,077,000,000,N,N,\x51\x0D,\x0D\x0A"
+#define ACK "\xAA\xAA\xAA\x01\x09\x09"
+static void line_end_cases(void)
+{
+    bench("the recorded report", 1, RECORDED, 76, 1, 0, 0);
+    ends("nothing behind the check bytes", "", 0, 0, 0, 0);
+    ends("a comma, 74 bytes", ",", 1, 0, 0, 0);
+    ends("a comma, 75 bytes", ",\x0D", 2, 0, 0, 0);
+    ends("a comma, 76 bytes", ",\x0D\x0A", 3, 1, 0, 0);
+    ends("a comma, 0D 0D", ",\x0D\x0D", 3, 0, 0, 0);
+    ends("a comma, 0D 0D 0A", ",\x0D\x0D\x0A", 4, 0, 0, 0);
+    ends("a comma, 0A 0D", ",\x0A\x0D", 3, 0, 0, 0);
+    ends("two commas", ",,\x0D\x0A", 4, 0, 0, 0);
+    ends("a comma, another packet", "," ACK, 7, 1, 74, 0);
+    ends("a comma, 0D, another packet", ",\x0D" ACK, 8, 1, 75, 0);
+    ends("a comma, 0D 0A, another packet", ",\x0D\x0A" ACK, 9, 2, 0, 76);
+    ends("no comma, another packet", "\x0D\x0A" ACK, 8, 2, 0, 75);
+    ends("no comma, 0D, another packet", "\x0D" ACK, 7, 1, 74, 0);
+    ends("a comma behind 75 bytes", "\x0D\x0A,", 3, 1, 0, 0);
+    ends("a comma and 0D 0A behind 75 bytes", "\x0D\x0A,\x0D\x0A", 5, 1, 0, 0);
+}
+
+/* A report that is broken off anywhere by another: of the two only the second
+ * is a frame, whatever its bytes make of the first one's end. */
+static void broken_off_cases(void)
+{
+    unsigned char b[160], whole[76];
+    unsigned forms;
+    size_t cut, first, second;
+
+    for (forms = 0; forms < 4; forms++) {
+        first = wrap_report(b, DATA_5, forms % 2);
+        second = wrap_report(whole, DATA_5, forms / 2);
+        memcpy(b + first, whole, second);
+        bench("one behind the other", 1, b, first + second, 2, 0, (uint32_t)first);
+        for (cut = first - 1; cut > 0; cut--) {
+            memcpy(b + cut, whole, second);
+            bench("broken off", 1, b, cut + second, 1, (uint32_t)cut, 0);
+        }
+    }
 }
 
 /* A dollar sign, the payload, and the right end; gives the length. */
@@ -238,9 +296,10 @@ static void compare_one(unsigned family, const unsigned char *b, size_t n)
 static void altered_reports(void)
 {
     static const char likely[] = "0123456789 .,xABKSORTLMHNtbarCDPWY";
-    unsigned char b[75];
+    unsigned char b[76];
     char data[67], clean[67];
     unsigned i, value, turn, change;
+    size_t n;
 
     for (turn = 0; turn < 4000 / share; turn++) {
         do {
@@ -251,16 +310,43 @@ static void altered_reports(void)
             for (value = 0; value < 256; value++) {
                 memcpy(data, clean, 67);
                 data[i] = (char)value;
-                wrap_report(b, data);
-                compare_one(1, b, 75);
+                n = wrap_report(b, data, turn % 2);
+                compare_one(1, b, n);
             }
         for (i = 0; i < 30; i++) {
             memcpy(data, clean, 67);
             for (change = 1 + roll(3); change > 0; change--)
                 data[roll(67)] = likely[roll(sizeof likely - 1)];
-            wrap_report(b, data);
-            compare_one(1, b, 75);
+            n = wrap_report(b, data, turn % 2);
+            compare_one(1, b, n);
         }
+    }
+}
+
+/* Each byte behind the data of a report in turn takes each value; then five
+ * bytes behind its check bytes are all that may mean something there, in
+ * captures that end before or behind any of them. */
+static void altered_ends(void)
+{
+    unsigned char b[80], clean[76];
+    unsigned i, value, form, left;
+    size_t n;
+
+    for (form = 0; form < 2; form++) {
+        n = wrap_report(clean, DATA_5, form);
+        for (i = 71; i < n; i++)
+            for (value = 0; value < 256; value++) {
+                memcpy(b, clean, n);
+                b[i] = (unsigned char)value;
+                compare_one(1, b, n);
+            }
+    }
+    for (value = 0; value < 5 * 5 * 5 * 5 * 5; value += share) {
+        memcpy(b, clean, 73);
+        for (i = 73, left = value; i < 78; i++, left /= 5)
+            b[i] = (unsigned char)",\x0D\x0A\xAA-"[left % 5];
+        for (n = 73; n <= 78; n++)
+            compare_one(1, b, n);
     }
 }
 
@@ -403,7 +489,10 @@ int main(int argc, char **argv)
     if (argc > 1 && atoi(argv[1]) > 1)
         share = (unsigned)atoi(argv[1]);
     packet_cases();
-    report_cases();
+    report_cases(0);
+    report_cases(1);
+    line_end_cases();
+    broken_off_cases();
     sentence_cases();
     printed_sentences();
     refusals();
@@ -411,6 +500,7 @@ int main(int argc, char **argv)
     all_short_packets();
     limited_fields();
     altered_reports();
+    altered_ends();
     altered_sentences();
     printf("single frames: %lu with a good frame, %lu without\n",
            good_seen, bad_seen);

@@ -67,6 +67,14 @@ static int slow_readings(char field[19][8])
         && one_of(field[18][0], "SADHCN");
 }
 
+/* Whether what follows the two check bytes ends a report: 0D 0A, or a comma and
+ * 0D 0A. */
+static int slow_line_end(const unsigned char *b, size_t n)
+{
+    return (n == 2 && memcmp(b, "\x0D\x0A", 2) == 0)
+        || (n == 3 && memcmp(b, ",\x0D\x0A", 3) == 0);
+}
+
 static int slow_report(const unsigned char *b, size_t n)
 {
     static const size_t widths[19] =
@@ -75,9 +83,9 @@ static int slow_report(const unsigned char *b, size_t n)
     unsigned long sum = 0;
     size_t i, at = 5;
 
-    if (n != 75 || memcmp(b, "\xAA\xAA\xAA\x43,", 5) != 0)
+    if (n < 73 || memcmp(b, "\xAA\xAA\xAA\x43,", 5) != 0)
         return 0;
-    if (b[73] != 13 || b[74] != 10)
+    if (!slow_line_end(b + 73, n - 73))
         return 0;
     for (i = 4; i < 71; i++)
         sum += b[i];

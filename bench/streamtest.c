@@ -5,12 +5,13 @@
  *
  *     streamtest [SHARE]
  *
- * The calls are of four sorts: made captures in pieces of many sizes, closed
+ * The calls are of five sorts: made captures in pieces of many sizes, closed
  * and drained; one to four calls on states of any bytes or nearly right ones,
  * with rows of any length; frames with bytes altered and their sums put right
- * again; and frames of which each byte in turn takes each value.  With a share
- * about one of that many turns is taken.  What is offered
- * ends where the memory that may be read ends. */
+ * again; frames of which each byte in turn takes each value; and reports that
+ * end in every way, or never do, cut anywhere.  With a share about one of that
+ * many turns is taken.  What is offered ends where the memory that may be read
+ * ends. */
 #include "amp.h"
 #include "captures.h"
 #include "made.h"
@@ -149,10 +150,10 @@ static uint8_t large[LONGEST];
 /* Many pieces of one size, then of another, for each has its own short ways. */
 static size_t some_piece(void)
 {
-    static const unsigned sizes[] = {0, 1, 1, 2, 5, 16, 16, 74, 75, 133, 134, 4096};
-    unsigned pick = below(&chances, 16);
+    static const unsigned sizes[] = {0, 1, 1, 2, 5, 16, 16, 74, 75, 76, 133, 134, 4096};
+    unsigned pick = below(&chances, 17);
 
-    return pick < 12 ? sizes[pick] : below(&chances, pick == 12 ? 5000 : 40);
+    return pick < 13 ? sizes[pick] : below(&chances, pick == 13 ? 5000 : 40);
 }
 
 static void one_capture(unsigned family, unsigned kind, uint64_t seed, size_t n)
@@ -262,7 +263,7 @@ static void some_payload(uint8_t *to, size_t n)
 
 static void some_state(uint8_t *line)
 {
-    static const unsigned limits[4] = {0, 74, 133, 5};
+    static const unsigned limits[4] = {0, 75, 133, 5};
     unsigned family = 1 + below(&chances, 3), count = below(&chances, limits[family] + 1);
 
     fill(&proved, sizeof proved);
@@ -328,7 +329,7 @@ static void put_right(struct frame *f)
     }
     if (f->length == 6)
         f->bytes[5] = f->bytes[4];
-    if (f->length != 75)
+    if (f->length < 75)
         return;
     for (i = 4; i < 71; i++)
         sum += f->bytes[i];
@@ -406,6 +407,117 @@ static void every_byte(void)
     }
 }
 
+/* ---- Ends of reports ---------------------------------------------------- */
+
+static void made_report(struct frame *f)
+{
+    do {
+        good_frame(f, 1, &chances);
+    } while (f->length < 75);
+}
+
+/* Fills the unused places with what could mean something if it were held. */
+static void soil(void)
+{
+    size_t i;
+
+    for (i = proved.count; i < sizeof proved.held; i++)
+        proved.held[i] = plain.held[i] = (uint8_t)",\x0D\x0A\xAA"[below(&chances, 4)];
+}
+
+/* A line offered to fresh readers, up to a cut and then in pieces of a size;
+ * closed and drained. */
+static void offer_line(const uint8_t *line, size_t n, size_t cut, size_t piece, const char *what)
+{
+    size_t at = cut < n ? cut : n;
+
+    fresh_both(1);
+    offer_both(line, at, what);
+    if (below(&chances, 2) == 0)
+        soil();
+    for (; at < n; at += piece)
+        offer_both(line + at, piece < n - at ? piece : n - at, what);
+    drain_both(what);
+}
+
+static void cut_anywhere(const uint8_t *line, size_t n, const char *what)
+{
+    size_t cut;
+
+    for (cut = 0; cut <= n; cut++)
+        offer_line(line, n, cut, n, what);
+    offer_line(line, n, 0, 1, what);
+    offer_line(line, n, 0, 16, what);
+}
+
+/* Four bytes behind the check bytes of a made report are all that may mean
+ * something there.  Then the line ends, or an acknowledgement follows. */
+static void line_ends(void)
+{
+    uint8_t line[83];
+    struct frame f;
+    unsigned end, left, i;
+    size_t cut;
+
+    for (end = 0; end < 5 * 5 * 5 * 5; end += share) {
+        made_report(&f);
+        memcpy(line, f.bytes, 73);
+        for (i = 73, left = end; i < 77; i++, left /= 5)
+            line[i] = (uint8_t)",\x0D\x0A\xAA-"[left % 5];
+        memcpy(line + 77, "\xAA\xAA\xAA\x01\x0D\x0D", 6);
+        for (cut = 72; cut < 84; cut++) {
+            offer_line(line, cut, 1 + below(&chances, 72), cut, "the end of a report");
+            offer_line(line, cut, below(&chances, 5), 1, "the end of a report");
+            offer_line(line, 83, cut, 83, "the end of a report");
+        }
+    }
+}
+
+/* A report that is begun behind some noise and never ends, with two
+ * acknowledgements at a place in it, and a comma behind where its check bytes
+ * would be, or another byte. */
+static void begun_report(size_t noise, size_t place, uint8_t behind_sum)
+{
+    uint8_t line[108] = {0};
+    size_t n = noise + 92, end;
+
+    memcpy(line + noise, "\xAA\xAA\xAA\x43", 4);
+    memcpy(line + noise + place, "\xAA\xAA\xAA\x01\x0D\x0D\xAA\xAA\xAA\x01\x09\x09", 12);
+    line[noise + 73] = behind_sum;
+    cut_anywhere(line, n, "held back");
+    for (end = noise + 72; end < noise + 80; end++)
+        offer_line(line, end, end, 1, "held back, and closed");
+}
+
+static void held_back(void)
+{
+    size_t noise, place;
+
+    for (place = 4; place < 80; place += share)
+        for (noise = 0; noise <= 16; noise++) {
+            begun_report(noise, place, ',');
+            begun_report(noise, place, 0);
+        }
+}
+
+/* A report that other frames break off at any place. */
+static void broken_off(void)
+{
+    uint8_t line[240];
+    struct frame f;
+    size_t place, n;
+
+    for (place = 1; place < 76; place += share) {
+        made_report(&f);
+        memcpy(line, f.bytes, 75);
+        for (n = place; n < place + 75; n += f.length) {
+            good_frame(&f, 1, &chances);
+            memcpy(line + n, f.bytes, f.length);
+        }
+        cut_anywhere(line, n, "broken off");
+    }
+}
+
 int main(int argc, char **argv)
 {
     unsigned i;
@@ -420,6 +532,9 @@ int main(int argc, char **argv)
     printf("with states: %lu tried, %lu failed\n", tried, failed);
     altered();
     every_byte();
+    line_ends();
+    held_back();
+    broken_off();
     printf("numbers for no:");
     for (i = 0; i < 9; i++)
         printf(" %u: %lu", i, gave[i]);

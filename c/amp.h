@@ -47,7 +47,7 @@ enum {
     AMP_SKIPPED, /* how many bytes were skipped before it since the last frame, modulo 2^32 */
     AMP_LENGTH,  /* how many bytes the frame has */
     AMP_VALUES,
-    AMP_ROW = 26 /* the longest row, that of a status report: every row has room in so many places */
+    AMP_ROW = 27 /* the longest row, that of a status report: every row has room in so many places */
 };
 
 enum {
@@ -81,6 +81,7 @@ enum {
     AMP_STATUS_COMBINER,
     AMP_STATUS_WARNING,   /* a letter, 'N' for none */
     AMP_STATUS_ALARM,     /* a letter, 'N' for none */
+    AMP_STATUS_COMMA,     /* 1 where a comma stands between the checksum and the line end, else 0 */
     AMP_STATUS_VALUES
 };
 
@@ -103,7 +104,7 @@ enum {
 /* A stream reader's state, 144 bytes. Any bytes in it are a legal state. */
 typedef struct amp_reader {
     uint8_t family;
-    uint8_t closed;    /* 0 is open */
+    uint8_t closed;    /* 0 is open, any other closed; amp_close makes it 1, amp_feed leaves it */
     uint8_t count;     /* how many of the held places are used */
     uint8_t held[133];
     uint32_t at;       /* the place of the first held byte in the stream, modulo 2^32 */
@@ -138,8 +139,9 @@ size_t amp_next(uint32_t family, const uint8_t *capture, size_t capture_len,
                 size_t place, uint32_t reports, size_t *start);
 
 /* Writes the frame of a kind, a code and values to the front of the output, and its length: kind, code
- * and values as a row has them. Values behind those of the kind are not looked at. Refusal 2 for the
- * code of an acknowledgement or a command, 3 for anything else that is no frame with a writer, then 4. */
+ * and values as a row has them. Values behind those of the kind are not looked at, nor is the code of a
+ * status report. Refusal 2 for the code of an acknowledgement or a command, 3 for anything else that is no
+ * frame with a writer, then 4. A status report has 75 bytes, and 76 with the comma. */
 uint32_t amp_write(uint32_t kind, uint32_t code, const int64_t *values, size_t values_len,
                    uint8_t *out, size_t out_len, size_t *length);
 

@@ -22,7 +22,7 @@ pub const AMP_SKIPPED: usize = 4;
 pub const AMP_LENGTH: usize = 5;
 pub const AMP_VALUES: usize = 6;
 /// The longest row.
-pub const AMP_ROW: usize = 26;
+pub const AMP_ROW: usize = 27;
 
 /// The kinds of a row. In a row they are i64, as every number there; amp_write takes a kind as u32.
 pub const AMP_ACK: u32 = 1;
@@ -53,7 +53,8 @@ pub const AMP_STATUS_LOWER: usize = 16;
 pub const AMP_STATUS_COMBINER: usize = 17;
 pub const AMP_STATUS_WARNING: usize = 18;
 pub const AMP_STATUS_ALARM: usize = 19;
-pub const AMP_STATUS_VALUES: usize = 20;
+pub const AMP_STATUS_COMMA: usize = 20;
+pub const AMP_STATUS_VALUES: usize = 21;
 
 /// Those of sentence 02.
 pub const AMP_02_PFWD: usize = 0;

@@ -2,7 +2,8 @@
  *
  *     amplifier FAMILY [noise | over]
  *
- * FAMILY 1 is an SPE amplifier that is switched to operate, tuned, driven and overheated; 2 is an Alpha.
+ * FAMILY 1 is a 2K-FA that is switched to operate, tuned, driven and overheated, and whose reports have a
+ * comma before the line end; then a 1.3K-FA speaks, whose report has none. 2 is an Alpha.
  * With noise, bytes that are no frame stand between the frames: lone marks, a frame that breaks off, a
  * length that a click has spoiled. With over, FAMILY is 1 and the first report has more watts than its
  * field carries: the refusal is said on standard error, and the status is 1. Other words are status 2. */
@@ -18,20 +19,20 @@ struct step {
 
 static const struct step spe[] = {
     {AMP_STATUS, 0, {20, 'S', 'R', 'x', 2, 3, 2, 't', 0, 'M',
-                     0, 0, 0, 0, 0, 31, 29, 30, 'N', 'N'}},
+                     0, 0, 0, 0, 0, 31, 29, 30, 'N', 'N', 1}},
     {AMP_ACK, 0x0D, {0}},
     {AMP_STATUS, 0, {20, 'O', 'R', 'x', 2, 3, 2, 't', 0, 'H',
-                     0, 0, 0, 480, 0, 31, 29, 30, 'N', 'N'}},
+                     0, 0, 0, 480, 0, 31, 29, 30, 'N', 'N', 1}},
     {AMP_ACK, 0x09, {0}},
     {AMP_STATUS, 0, {20, 'O', 'T', 'x', 2, 3, 2, 'a', 0, 'H',
-                     1499, 107, 213, 478, 392, 54, 47, 49, 'N', 'N'}},
+                     1499, 107, 213, 478, 392, 54, 47, 49, 'N', 'N', 1}},
     {AMP_STATUS, 0, {20, 'O', 'T', 'x', 2, 3, 2, 'a', 0, 'H',
-                     1873, 150, 1005, 471, 455, 88, 81, 79, 'O', 'N'}},
+                     1873, 150, 1005, 471, 455, 88, 81, 79, 'O', 'N', 1}},
     {AMP_STATUS, 0, {20, 'S', 'R', 'x', 2, 3, 2, 'a', 0, 'H',
-                     0, 0, 0, 480, 0, 102, 97, 99, 'M', 'H'}},
+                     0, 0, 0, 480, 0, 102, 97, 99, 'M', 'H', 1}},
     {AMP_ACK, 0x0A, {0}},
     {AMP_STATUS, 0, {13, 'O', 'T', 'B', 1, 11, 4, 'b', 4, 'L',
-                     9999, 9999, 9999, 999, 999, 999, 0, 0, 'K', 'S'}},
+                     9999, 9999, 9999, 999, 999, 999, 0, 0, 'K', 'S', 0}},
 };
 
 static const struct step alpha[] = {
@@ -43,7 +44,8 @@ static const struct step alpha[] = {
 };
 
 /* What a line may carry between frames, and no frame in it. The last one for the SPE begins a report
- * that never ends: the frames behind it are held back until 75 bytes have decided it. */
+ * that never ends: the frames behind it are held back until 75 bytes have decided it, or 76 where a comma
+ * stands behind what would be its check bytes. */
 struct noise {
     const char *bytes;
     size_t length;

@@ -1,5 +1,6 @@
 /* Calls every function of the header with arguments whose results are known: the cases of the bench
- * sheet, the sentences that the Alpha's paper prints, each number for no, and what has to be left alone.
+ * sheet, both forms of a report, one that an amplifier sent, the sentences that the Alpha's paper prints,
+ * each number for no, and what has to be left alone.
  * A line for each check that fails, a last line 'N checks, M wrong', and status 0 only if none is. */
 #include "calls.h"
 
@@ -16,10 +17,16 @@ void check(int right, const char *what)
 
 /* ---- Values ---------------------------------------------------------------------------------- */
 
-const int64_t values_5[20] = {
-    20, 'S', 'R', 'x', 2, 3, 2, 't', 0, 'M', 0, 0, 0, 0, 0, 31, 29, 30, 'N', 'N'
+const int64_t values_5[AMP_STATUS_VALUES] = {
+    20, 'S', 'R', 'x', 2, 3, 2, 't', 0, 'M', 0, 0, 0, 0, 0, 31, 29, 30, 'N', 'N', 0
 };
-const int64_t values_7[11] = {1, 1, 1, 8, 1, 11, 3, 4, 0, 42, 1};
+const int64_t comma_5[AMP_STATUS_VALUES] = {
+    20, 'S', 'R', 'x', 2, 3, 2, 't', 0, 'M', 0, 0, 0, 0, 0, 31, 29, 30, 'N', 'N', 1
+};
+static const int64_t recorded[AMP_STATUS_VALUES] = {
+    13, 'S', 'R', 'A', 1, 7, 2, 'a', 0, 'M', 0, 0, 0, 0, 0, 77, 0, 0, 'N', 'N', 1
+};
+const int64_t values_7[AMP_05_VALUES] = {1, 1, 1, 8, 1, 11, 3, 4, 0, 42, 1};
 static const int64_t values_02[] = {
     15017, 10, 2590, 3169, 768, 230, 96, 57, 1, 6, 1, 0, 15721
 };
@@ -75,6 +82,7 @@ static void layout(void)
     check(offsetof(amp_reader, at) == 136, "at at 136");
     check(offsetof(amp_reader, skipped) == 140, "skipped at 140");
     check(AMP_VALUES + AMP_STATUS_VALUES == AMP_ROW, "a report is the longest row");
+    check(AMP_ROW == 27 && AMP_STATUS_COMMA == 20, "the comma is a report's last value");
     check(AMP_02_VALUES == 13 && AMP_03_VALUES == 9 && AMP_05_VALUES == 11, "values of sentences");
 }
 
@@ -125,6 +133,25 @@ static void reading(void)
     does_not_read("no row", 1, SLICE(CASE_5), 0, AMP_NO_ROOM);
 }
 
+/* Both forms of a report, told apart by the byte behind the two check bytes, and what has neither. */
+static void reading_line_ends(void)
+{
+    reads("a comma", 1, SLICE(COMMA_5), AMP_STATUS, 0, comma_5, AMP_STATUS_VALUES);
+    reads("the recorded report", 1, SLICE(RECORDED), AMP_STATUS, 0, recorded, AMP_STATUS_VALUES);
+    reads("the same in spaces", 1, SLICE(REWRITTEN), AMP_STATUS, 0, recorded, AMP_STATUS_VALUES);
+    does_not_read("73 bytes", 1, SLICE(FRONT_5), AMP_ROW, AMP_NOT_GOOD);
+    does_not_read("a comma, 74 bytes", 1, SLICE(FRONT_5 ","), AMP_ROW, AMP_NOT_GOOD);
+    does_not_read("a comma, 75 bytes", 1, SLICE(FRONT_5 ",\x0D"), AMP_ROW, AMP_NOT_GOOD);
+    does_not_read("a comma, 77 bytes", 1, SLICE(COMMA_5 "\x0A"), AMP_ROW, AMP_NOT_GOOD);
+    does_not_read("a comma, 0D 0D", 1, SLICE(FRONT_5 ",\x0D\x0D"), AMP_ROW, AMP_NOT_GOOD);
+    does_not_read("a comma, 0A 0D", 1, SLICE(FRONT_5 ",\x0A\x0D"), AMP_ROW, AMP_NOT_GOOD);
+    does_not_read("a comma, 0D AA", 1, SLICE(FRONT_5 ",\x0D\xAA"), AMP_ROW, AMP_NOT_GOOD);
+    does_not_read("a comma in no place", 1, SLICE(CASE_5 ","), AMP_ROW, AMP_NOT_GOOD);
+    does_not_read("a byte that is no comma", 1, SLICE(FRONT_5 "-\x0D\x0A"), AMP_ROW, AMP_NOT_GOOD);
+    does_not_read("two commas", 1, SLICE(FRONT_5 ",,\x0D\x0A"), AMP_ROW, AMP_NOT_GOOD);
+    does_not_read("0D instead", 1, SLICE(FRONT_5 "\x0D\x0D\x0A"), AMP_ROW, AMP_NOT_GOOD);
+}
+
 /* ---- Cases 12 and 13, whose bytes are worked out here ---------------------------------------- */
 
 /* A sentence APA99 with a payload of n bytes and the right sums; gives its length. */
@@ -167,7 +194,7 @@ static void report_of(uint8_t *to, const char *data)
 static void worked_out(void)
 {
     static const int64_t small[] = {
-        13, 'S', 'R', 'A', 2, 11, 2, 't', 0, 'M', 0, 0, 0, 0, 0, 31, 0, 0, 'N', 'N'
+        13, 'S', 'R', 'A', 2, 11, 2, 't', 0, 'M', 0, 0, 0, 0, 0, 31, 0, 0, 'N', 'N', 0
     };
     uint8_t bytes[160];
     size_t n = sentence_of(bytes, 128);
@@ -215,6 +242,11 @@ static void listing(void)
     lists("case 4", 1, SLICE(CASE_4), 2, 4, 10);
     lists("case 5", 1, SLICE(CASE_5), 1, 0, 0);
     lists("case 6", 1, SLICE(CASE_6), 0, 0, 0);
+    lists("both forms", 1, SLICE(COMMA_5 CASE_5), 2, 0, 76);
+    lists("a comma behind 75 bytes", 1, SLICE(CASE_5 "," COMMA_5), 2, 0, 76);
+    lists("a comma, 75 bytes", 1, SLICE(FRONT_5 ",\x0D"), 0, 0, 0);
+    lists("a comma, 75 bytes and a packet", 1, SLICE(FRONT_5 ",\x0D" ACK_9), 1, 75, 0);
+    lists("a comma, 74 bytes and a packet", 1, SLICE(FRONT_5 "," ACK_9), 1, 74, 0);
     lists("case 9", 2, SLICE(CASE_9), 1, 5, 0);
     lists("case 11", 2, NOTHING, 0, 0, 0);
     lists("65,536 zeros", 3, large, 65536, 0, 0, 0);
@@ -253,6 +285,9 @@ static void next(void)
     next_is("any frame", 1, SLICE(CASE_2 CASE_5), 0, 0, 6, 0);
     next_is("a report", 1, SLICE(CASE_2 CASE_5), 0, 1, 75, 12);
     next_is("a report, asked by another number", 1, SLICE(CASE_2 CASE_5), 0, 256, 75, 12);
+    next_is("a report with a comma", 1, SLICE(CASE_2 COMMA_5), 0, 1, 76, 12);
+    next_is("any frame, a report with a comma", 1, SLICE(CASE_2 COMMA_5), 7, 0, 76, 12);
+    no_next("a report with a comma, a byte short", 1, SLICE(FRONT_5 ",\x0D"), 0, 1);
     no_next("no report", 1, SLICE(CASE_2), 0, 1);
     no_next("a sentence is no report", 2, SLICE(CASE_7), 0, 1);
     next_is("case 9", 2, SLICE(CASE_9), 0, 0, 32, 5);
@@ -294,6 +329,9 @@ static void does_not_write(const char *what, uint32_t kind, uint32_t code, const
 static void writing(void)
 {
     writes("case 5", AMP_STATUS, 0, values_5, AMP_STATUS_VALUES, SLICE(CASE_5));
+    writes("a comma", AMP_STATUS, 0, comma_5, AMP_STATUS_VALUES, SLICE(COMMA_5));
+    writes("the recorded report", AMP_STATUS, 0, recorded, AMP_STATUS_VALUES, SLICE(REWRITTEN));
+    check(memcmp(RECORDED, REWRITTEN, sizeof RECORDED) != 0, "it was not in the writer's form");
     writes("case 7", AMP_SENTENCE, 5, values_7, AMP_05_VALUES, SLICE(CASE_7));
     writes("printed 02", AMP_SENTENCE, 2, values_02, AMP_02_VALUES, SLICE(PRINTED_02));
     writes("printed 03", AMP_SENTENCE, 3, values_03, AMP_03_VALUES, SLICE(PRINTED_03));
@@ -304,13 +342,15 @@ static void writing(void)
     does_not_write("code 10D", AMP_ACK, 0x10D, values_5, 0, 6, AMP_NO_CODE);
     does_not_write("no code before no room", AMP_ACK, 0, values_5, 0, 0, AMP_NO_CODE);
     does_not_write("no room", AMP_ACK, 0x0D, values_5, 0, 5, AMP_NO_ROOM);
-    does_not_write("no room for a report", AMP_STATUS, 0, values_5, 20, 74, AMP_NO_ROOM);
-    does_not_write("too few values", AMP_STATUS, 0, values_5, 19, 160, AMP_NO_RECORD);
+    does_not_write("no room for a report", AMP_STATUS, 0, values_5, 21, 74, AMP_NO_ROOM);
+    does_not_write("no room for a comma", AMP_STATUS, 0, comma_5, 21, 75, AMP_NO_ROOM);
+    does_not_write("too few values", AMP_STATUS, 0, values_5, 20, 160, AMP_NO_RECORD);
+    does_not_write("too few values before no room", AMP_STATUS, 0, comma_5, 20, 0, AMP_NO_RECORD);
     does_not_write("not those of a report", AMP_STATUS, 0, values_02, 13, 160, AMP_NO_RECORD);
     does_not_write("sentence 11", AMP_SENTENCE, 11, values_02, 13, 160, AMP_NO_RECORD);
-    does_not_write("kind 0", 0, 0, values_5, 20, 160, AMP_NO_RECORD);
-    does_not_write("kind more wanted", AMP_MORE, 0, values_5, 20, 160, AMP_NO_RECORD);
-    does_not_write("no record before no room", AMP_SENTENCE, 2, values_5, 20, 0, AMP_NO_RECORD);
+    does_not_write("kind 0", 0, 0, values_5, 21, 160, AMP_NO_RECORD);
+    does_not_write("kind more wanted", AMP_MORE, 0, values_5, 21, 160, AMP_NO_RECORD);
+    does_not_write("no record before no room", AMP_SENTENCE, 2, values_5, 21, 0, AMP_NO_RECORD);
 }
 
 /* A value over its field, one below 0, and one that 32 bits would cut to a good one. */
@@ -327,6 +367,23 @@ static void spoiled_values(void)
         memcpy(values, values_03, sizeof values_03);
         values[AMP_03_TEMP] = bad[i] == -1 ? -10000 : bad[i];
         does_not_write("temperature", AMP_SENTENCE, 3, values, AMP_03_VALUES, 160, AMP_NO_RECORD);
+    }
+}
+
+/* What is neither a comma nor none, or would be one of them in fewer bits. */
+static void spoiled_commas(void)
+{
+    static const int64_t bad[] = {
+        2, -1, ',', 256, 257, INT64_C(0x100000000), INT64_C(0x100000001), INT64_MAX, INT64_MIN
+    };
+    int64_t values[AMP_STATUS_VALUES];
+    size_t i;
+
+    memcpy(values, values_5, sizeof values);
+    for (i = 0; i < sizeof bad / sizeof *bad; i++) {
+        values[AMP_STATUS_COMMA] = bad[i];
+        does_not_write("a comma", AMP_STATUS, 0, values, AMP_STATUS_VALUES, 160, AMP_NO_RECORD);
+        does_not_write("a comma before no room", AMP_STATUS, 0, values, AMP_STATUS_VALUES, 0, AMP_NO_RECORD);
     }
 }
 
@@ -359,12 +416,14 @@ int main(void)
 {
     layout();
     reading();
+    reading_line_ends();
     worked_out();
     listing();
     next();
     stream_calls();
     writing();
     spoiled_values();
+    spoiled_commas();
     enabling();
     stamps();
     printf("%u checks, %u wrong\n", checks, wrong);

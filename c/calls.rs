@@ -1,5 +1,5 @@
-//! Calls every function of the library once from Rust, through c/amp.rs, and holds the results to what
-//! is known of them. A line for each check that fails, and a last line 'N checks, M wrong'.
+//! Calls every function of the library from Rust, through c/amp.rs, and holds the results to what is
+//! known of them. A line for each check that fails, and a last line 'N checks, M wrong'.
 //! Nothing here is newer than Rust 1.63.
 
 #[path = "amp.rs"]
@@ -10,6 +10,35 @@ use amp::*;
 const CASE_2: &[u8] = b"\xAA\xAA\xAA\x01\x0D\x0D\xAA\xAA\xAA\x01\x09\x09";
 const CASE_7: &[u8] = b"$APA05,11,18,1B,34,00,2A,01*A844";
 const VALUES_7: [i64; AMP_05_VALUES] = [1, 1, 1, 8, 1, 11, 3, 4, 0, 42, 1];
+
+/// The recorded report of c/calls.h, and the same values as a writer pads them.
+const RECORDED: &[u8] = b"\xAA\xAA\xAA\x43,13K,S,R,A,1,07,2a,0r,M,0000, 0.00, 0.00, 0.0, 0.0\
+,077,000,000,N,N,\x51\x0D,\x0D\x0A";
+const REWRITTEN: &[u8] = b"\xAA\xAA\xAA\x43,13K,S,R,A,1,07,2a,0r,M,0000, 0.00, 0.00, 0.0, 0.0\
+, 77,  0,  0,N,N,\x01\x0D,\x0D\x0A";
+const VALUES_RECORDED: [i64; AMP_STATUS_VALUES] = [
+    13,
+    b'S' as i64,
+    b'R' as i64,
+    b'A' as i64,
+    1,
+    7,
+    2,
+    b'a' as i64,
+    0,
+    b'M' as i64,
+    0,
+    0,
+    0,
+    0,
+    0,
+    77,
+    0,
+    0,
+    b'N' as i64,
+    b'N' as i64,
+    1,
+];
 
 struct Checks {
     tried: usize,
@@ -48,15 +77,18 @@ fn feed(reader: &mut AmpReader, bytes: &[u8], row: &mut [i64; AMP_ROW], room: us
     unsafe { amp_feed(reader, bytes.as_ptr(), bytes.len(), row.as_mut_ptr(), room) }
 }
 
+/// What a reader may be before it is made a fresh one.
+const FILLED: AmpReader = AmpReader {
+    family: 9,
+    closed: 9,
+    count: 9,
+    held: [9; 133],
+    at: 9,
+    skipped: 9,
+};
+
 fn streams(checks: &mut Checks) {
-    let mut reader = AmpReader {
-        family: 9,
-        closed: 9,
-        count: 9,
-        held: [9; 133],
-        at: 9,
-        skipped: 9,
-    };
+    let mut reader = FILLED;
     let mut row = [-77i64; AMP_ROW];
     layout(checks, &reader);
     checks.check(unsafe { amp_fresh(&mut reader, 2) } == 0, "fresh");
@@ -119,6 +151,91 @@ fn frames(checks: &mut Checks) {
     checks.check(number == 0 && &out[..length] == b"+++", "enable");
 }
 
+/// A report read, with a place for each number of its row and with one less.
+fn read_reports(checks: &mut Checks) {
+    let mut row = [-77i64; AMP_ROW];
+    let (bytes, n) = (RECORDED.as_ptr(), RECORDED.len());
+    let number = unsafe { amp_read(1, bytes, n, row.as_mut_ptr(), AMP_ROW - 1) };
+    checks.check(
+        number == AMP_NO_ROOM && row == [-77; AMP_ROW],
+        "no room for the last value",
+    );
+    let number = unsafe { amp_read(1, bytes, n, row.as_mut_ptr(), AMP_ROW) };
+    checks.check(
+        number == 0 && row[..AMP_VALUES] == [AMP_STATUS as i64, 0, 0, 0, 0, 76],
+        "read a report with a comma",
+    );
+    checks.check(row[AMP_VALUES..] == VALUES_RECORDED, "its values");
+    let number = unsafe { amp_read(1, bytes, n - 1, row.as_mut_ptr(), AMP_ROW) };
+    checks.check(number == AMP_NOT_GOOD, "a byte short");
+}
+
+/// Writes the recorded report with this for its comma, so many of its values into so many places. Gives
+/// the number for no and what was written.
+fn rewrite(comma: i64, many: usize, room: usize) -> (u32, Vec<u8>) {
+    let mut values = VALUES_RECORDED;
+    let mut out = [0xEEu8; 80];
+    let mut length = 0usize;
+    values[AMP_STATUS_COMMA] = comma;
+    let number = unsafe {
+        let (values, out) = (values.as_ptr(), out.as_mut_ptr());
+        amp_write(AMP_STATUS, 0, values, many, out, room, &mut length)
+    };
+    (number, out[..length].to_vec())
+}
+
+fn write_reports(checks: &mut Checks) {
+    let plain = [&REWRITTEN[..73], b"\x0D\x0A"].concat();
+    checks.check(REWRITTEN != RECORDED, "not in the writer's form");
+    checks.check(rewrite(1, 21, 76) == (0, REWRITTEN.to_vec()), "a comma");
+    checks.check(rewrite(0, 21, 75) == (0, plain), "no comma");
+    checks.check(rewrite(1, 21, 75) == (AMP_NO_ROOM, vec![]), "no room");
+    checks.check(rewrite(0, 21, 74) == (AMP_NO_ROOM, vec![]), "no room");
+    checks.check(rewrite(1, 20, 80) == (AMP_NO_RECORD, vec![]), "20 values");
+    checks.check(rewrite(2, 21, 80) == (AMP_NO_RECORD, vec![]), "comma 2");
+    checks.check(rewrite(-1, 21, 0) == (AMP_NO_RECORD, vec![]), "comma -1");
+}
+
+/// The recorded report as a stream, cut anywhere.
+fn cut_reports(checks: &mut Checks) {
+    for cut in 0..RECORDED.len() {
+        let mut reader = FILLED;
+        let mut row = [-77i64; AMP_ROW];
+        checks.check(unsafe { amp_fresh(&mut reader, 1) } == 0, "fresh");
+        let number = feed(&mut reader, &RECORDED[..cut], &mut row, AMP_ROW);
+        checks.check(
+            number == 0 && row[..AMP_VALUES] == [AMP_MORE as i64, 0, cut as i64, 0, 0, 0],
+            "up to a cut",
+        );
+        checks.check(reader.count as usize == cut, "held up to a cut");
+        let number = feed(&mut reader, &RECORDED[cut..], &mut row, AMP_ROW);
+        let taken = (RECORDED.len() - cut) as i64;
+        checks.check(
+            number == 0 && row[..AMP_VALUES] == [AMP_STATUS as i64, 0, taken, 0, 0, 76],
+            "behind the cut",
+        );
+        checks.check(row[AMP_VALUES..] == VALUES_RECORDED, "the values then");
+    }
+}
+
+/// The most that a reader of family 1 may hold, and one byte more.
+fn held_most(checks: &mut Checks) {
+    let mut row = [-77i64; AMP_ROW];
+    let mut reader = FILLED;
+    reader.family = 1;
+    reader.closed = 0;
+    reader.count = 76;
+    let before = reader;
+    let number = feed(&mut reader, &[], &mut row, AMP_ROW);
+    checks.check(
+        number == AMP_HOLDS_TOO_MUCH && reader == before && row == [-77; AMP_ROW],
+        "76 held",
+    );
+    reader.count = 75;
+    let number = feed(&mut reader, &[], &mut row, AMP_ROW);
+    checks.check(number == 0 && reader.count == 0, "75 held");
+}
+
 fn captures(checks: &mut Checks) {
     let mut starts = [u32::MAX; 3];
     let mut count = 0usize;
@@ -143,6 +260,10 @@ fn main() {
     let mut checks = Checks { tried: 0, wrong: 0 };
     streams(&mut checks);
     frames(&mut checks);
+    read_reports(&mut checks);
+    write_reports(&mut checks);
+    cut_reports(&mut checks);
+    held_most(&mut checks);
     captures(&mut checks);
     println!("{} checks, {} wrong", checks.tried, checks.wrong);
     std::process::exit(if checks.wrong == 0 { 0 } else { 1 });

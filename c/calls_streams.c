@@ -53,7 +53,23 @@ static void held_back(void)
     check(reader.count == 0 && reader.at == 76 && reader.skipped == 60, "zeros skipped");
 }
 
-/* The same, closed behind the 16 bytes. */
+/* The same with a comma where a report may have one: 75 bytes do not decide it, and 76 do. */
+static void held_back_longer(void)
+{
+    uint8_t line[78] = CASE_4;
+    amp_reader reader;
+
+    line[73] = ',';
+    check(amp_fresh(&reader, 1) == 0, "fresh");
+    feeds("75 bytes", &reader, line, 75, HEAD(AMP_MORE, 0, 75, 0, 0, 0), NULL, 0);
+    check(reader.count == 75 && reader.at == 0, "75 bytes held");
+    feeds("byte 76", &reader, line + 75, 3, HEAD(AMP_ACK, 0x0D, 1, 4, 4, 6), NULL, 0);
+    feeds("the second", &reader, line + 76, 2, HEAD(AMP_ACK, 0x09, 0, 10, 0, 6), NULL, 0);
+    feeds("then more", &reader, line + 76, 2, HEAD(AMP_MORE, 0, 2, 0, 0, 0), NULL, 0);
+    check(reader.count == 0 && reader.at == 78 && reader.skipped == 62, "the rest skipped");
+}
+
+/* Case 4, closed behind the 16 bytes. */
 static void drained(void)
 {
     amp_reader reader;
@@ -91,6 +107,74 @@ static void handed_out(void)
           HEAD(AMP_COMMAND, 0x0D, 6, 0, 0, 6), NULL, 0);
 }
 
+/* A report with a comma behind a byte of noise, cut anywhere before its last byte: it comes with that one. */
+static void cut_anywhere(void)
+{
+    static const uint8_t line[] = "x" COMMA_5 ACK_9;
+    amp_reader reader;
+    int64_t cut;
+
+    for (cut = 0; cut < 77; cut++) {
+        check(amp_fresh(&reader, 1) == 0, "fresh");
+        feeds("up to a cut", &reader, line, (size_t)cut, HEAD(AMP_MORE, 0, cut, 0, 0, 0), NULL, 0);
+        feeds("behind the cut", &reader, line + cut, (size_t)(83 - cut),
+              HEAD(AMP_STATUS, 0, 77 - cut, 1, 1, 76), comma_5, AMP_STATUS_VALUES);
+        check(reader.count == 0 && reader.at == 77 && reader.skipped == 0, "none held behind it");
+        feeds("the next", &reader, line + 77, 6, HEAD(AMP_ACK, 0x09, 6, 77, 0, 6), NULL, 0);
+    }
+}
+
+/* A whole report with a comma but for its last byte: another packet begins there, or the reader is closed. */
+static void cut_short(void)
+{
+    amp_reader reader;
+
+    check(amp_fresh(&reader, 1) == 0, "fresh");
+    feeds("75 bytes", &reader, SLICE(FRONT_5 ",\x0D"), HEAD(AMP_MORE, 0, 75, 0, 0, 0), NULL, 0);
+    feeds("a mark", &reader, SLICE("\xAA"), HEAD(AMP_MORE, 0, 1, 0, 0, 0), NULL, 0);
+    check(reader.count == 1 && reader.at == 75 && reader.skipped == 75, "75 skipped");
+    feeds("the packet", &reader, SLICE("\xAA\xAA\x01\x0D\x0D"), HEAD(AMP_ACK, 0x0D, 5, 75, 75, 6), NULL, 0);
+    feeds("75 bytes", &reader, SLICE(FRONT_5 ",\x0D"), HEAD(AMP_MORE, 0, 75, 0, 0, 0), NULL, 0);
+    check(amp_close(&reader) == 0 && reader.count == 75, "closed a byte short");
+    feeds("no frame", &reader, NOTHING, HEAD(AMP_DONE, 0, 0, 0, 0, 0), NULL, 0);
+    check(reader.count == 0 && reader.at == 156 && reader.skipped == 75, "75 dropped");
+}
+
+/* A comma behind a report of 75 bytes is not its own, and it is not waited for. */
+static void comma_behind(void)
+{
+    amp_reader reader;
+
+    check(amp_fresh(&reader, 1) == 0, "fresh");
+    feeds("75 bytes and a comma", &reader, SLICE(CASE_5 ","), HEAD(AMP_STATUS, 0, 75, 0, 0, 75),
+          values_5, AMP_STATUS_VALUES);
+    feeds("the comma", &reader, SLICE("," COMMA_5), HEAD(AMP_STATUS, 0, 77, 76, 1, 76),
+          comma_5, AMP_STATUS_VALUES);
+}
+
+/* The most bytes that a reader of family 1 may hold: any, a whole report, and one that wants its last byte. */
+static void holds_most(void)
+{
+    amp_reader reader;
+
+    check(amp_fresh(&reader, 1) == 0, "fresh");
+    memset(reader.held, 7, sizeof reader.held);
+    reader.count = 75;
+    feeds("75 bytes held", &reader, NOTHING, HEAD(AMP_MORE, 0, 0, 0, 0, 0), NULL, 0);
+    check(reader.count == 0 && reader.at == 75 && reader.skipped == 75, "75 bytes skipped");
+    memcpy(reader.held, CASE_5, 75);
+    reader.count = 75;
+    feeds("a report held", &reader, zeros, 1, HEAD(AMP_STATUS, 0, 0, 75, 75, 75),
+          values_5, AMP_STATUS_VALUES);
+    memcpy(reader.held, COMMA_5, 75);
+    reader.count = 75;
+    feeds("its last byte wanted", &reader, NOTHING, HEAD(AMP_MORE, 0, 0, 0, 0, 0), NULL, 0);
+    feeds("its last byte", &reader, SLICE("\x0A\x0A"), HEAD(AMP_STATUS, 0, 1, 150, 0, 76),
+          comma_5, AMP_STATUS_VALUES);
+    reader.count = 75;
+    check(amp_close(&reader) == 0 && reader.count == 75, "75 bytes held, closed");
+}
+
 /* Whether a reader that claims to hold count bytes is refused by both calls, and left alone. */
 static void holds_too_much(uint8_t family, uint8_t count)
 {
@@ -110,7 +194,7 @@ static void states_refused(void)
 {
     amp_reader reader, before;
 
-    holds_too_much(1, 75);
+    holds_too_much(1, 76);
     holds_too_much(2, 134);
     holds_too_much(3, 6);
     holds_too_much(3, 255);
@@ -131,7 +215,12 @@ void stream_calls(void)
 {
     fresh();
     held_back();
+    held_back_longer();
     drained();
     handed_out();
+    cut_anywhere();
+    cut_short();
+    comma_behind();
+    holds_most();
     states_refused();
 }

@@ -162,6 +162,9 @@ static void judge_read(uint32_t family, const uint8_t *bytes, size_t n, const in
     EXPECT(frame_of(family, row));
     EXPECT(row[AMP_TAKEN] == 0 && row[AMP_START] == 0);
     EXPECT(row[AMP_SKIPPED] == 0 && row[AMP_LENGTH] == (int64_t)n);
+    EXPECT(length_fits(row));
+    if (row[AMP_KIND] == AMP_STATUS && n >= 75)
+        EXPECT(row[AMP_VALUES + AMP_STATUS_COMMA] == (bytes[73] == ','));
     EXPECT(amp_next(family, bytes, n, 0, row[AMP_KIND] == AMP_STATUS, &start) == n && start == 0);
 }
 
@@ -322,7 +325,7 @@ static int some_record(int64_t *row, size_t many)
 static void judge_refusal(uint32_t number, const int64_t *row, size_t many, size_t room, int spoiled)
 {
     uint32_t kind = (uint32_t)row[AMP_KIND], code = (uint32_t)row[AMP_CODE];
-    size_t length = written_length(kind, code);
+    size_t length = written_length(row);
 
     if (kind == AMP_ACK || kind == AMP_COMMAND)
         EXPECT(number == (!is_code(kind, code) ? AMP_NO_CODE : room < 6 ? AMP_NO_ROOM : 0));
@@ -341,7 +344,7 @@ static void judge_written(const int64_t *row, const uint8_t *out, size_t length)
     uint32_t family = kind == AMP_SENTENCE ? 2 : kind == AMP_COMMAND ? 3 : 1;
     int64_t back[AMP_ROW];
 
-    EXPECT(length == written_length(kind, code));
+    EXPECT(length == written_length(row));
     EXPECT(amp_read(family, out, length, back, AMP_ROW) == 0);
     EXPECT(back[AMP_KIND] == row[AMP_KIND]);
     EXPECT(back[AMP_CODE] == (kind == AMP_STATUS ? 0 : row[AMP_CODE]));
@@ -350,8 +353,9 @@ static void judge_written(const int64_t *row, const uint8_t *out, size_t length)
 
 static void try_write(void)
 {
-    size_t many = once_in(6) ? some_below(26) : 20, room = once_in(4) ? some_below(76) : 75 + some_below(20);
-    int64_t row[AMP_VALUES + 26], *values;
+    size_t many = once_in(6) ? some_below(27) : AMP_STATUS_VALUES;
+    size_t room = once_in(4) ? some_below(77) : 75 + some_below(20);
+    int64_t row[AMP_VALUES + 27], *values;
     uint32_t number;
     size_t *length;
     uint8_t *out;

@@ -40,7 +40,7 @@ size_t limit_of(uint32_t family);
 int is_code(uint32_t kind, uint32_t code);
 size_t values_of(uint32_t kind, uint32_t code);
 size_t row_size(const int64_t *row);
-size_t written_length(uint32_t kind, uint32_t code);
+size_t written_length(const int64_t *row);
 int frame_of(uint32_t family, const int64_t *row);
 int length_fits(const int64_t *row);
 

@@ -155,7 +155,7 @@ int is_family(uint32_t family)
 
 size_t limit_of(uint32_t family)
 {
-    return family == 1 ? 74 : family == 2 ? 133 : 5;
+    return family == 1 ? 75 : family == 2 ? 133 : 5;
 }
 
 int is_code(uint32_t kind, uint32_t code)
@@ -178,13 +178,23 @@ size_t row_size(const int64_t *row)
     return (AMP_VALUES + values_of((uint32_t)row[AMP_KIND], (uint32_t)row[AMP_CODE])) * sizeof *row;
 }
 
-/* How long the writer makes a frame; 0 where there is no writer. */
-size_t written_length(uint32_t kind, uint32_t code)
+/* How long a report is by its row's last value; 0 where that is neither 0 nor 1. */
+static size_t report_length(const int64_t *row)
 {
+    int64_t comma = row[AMP_VALUES + AMP_STATUS_COMMA];
+
+    return comma == 0 ? 75 : comma == 1 ? 76 : 0;
+}
+
+/* How long the writer makes the frame of a row; 0 where there is no writer. */
+size_t written_length(const int64_t *row)
+{
+    uint32_t kind = (uint32_t)row[AMP_KIND], code = (uint32_t)row[AMP_CODE];
+
     if (kind == AMP_ACK || kind == AMP_COMMAND)
         return 6;
     if (kind == AMP_STATUS)
-        return 75;
+        return report_length(row);
     if (kind != AMP_SENTENCE)
         return 0;
     return code == 2 ? 63 : code == 3 ? 49 : code == 5 ? 32 : 0;
@@ -207,7 +217,9 @@ int length_fits(const int64_t *row)
 {
     if (row[AMP_KIND] == AMP_SENTENCE)
         return row[AMP_LENGTH] >= 11 && row[AMP_LENGTH] <= 134;
-    return row[AMP_LENGTH] == (row[AMP_KIND] == AMP_STATUS ? 75 : 6);
+    if (row[AMP_KIND] == AMP_STATUS)
+        return row[AMP_LENGTH] == (int64_t)report_length(row);
+    return row[AMP_LENGTH] == 6;
 }
 
 /* ---- Arguments ------------------------------------------------------------------------------ */
@@ -240,7 +252,7 @@ uint32_t near_family(uint32_t family)
 
 size_t some_length(size_t most)
 {
-    static const size_t sharp[] = {0, 1, 3, 4, 5, 6, 7, 11, 32, 74, 75, 76, 133, 134, 135};
+    static const size_t sharp[] = {0, 1, 3, 4, 5, 6, 7, 11, 32, 74, 75, 76, 77, 133, 134, 135};
 
     return once_in(4) ? sharp[some_below(sizeof sharp / sizeof *sharp)] : some_below(most);
 }

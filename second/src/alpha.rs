@@ -4,14 +4,14 @@ pub const SHORTEST_PAYLOAD: usize = 5;
 pub const LONGEST_PAYLOAD: usize = 128;
 
 /// Widths of the fields of sentences 02 and 03 (without 03's temperature).
-const WIDTHS_02: [usize; 13] = [5, 3, 4, 4, 4, 3, 3, 3, 1, 1, 2, 1, 5];
-const WIDTHS_03: [usize; 8] = [3, 3, 3, 3, 3, 4, 3, 1];
+pub const WIDTHS_02: [usize; 13] = [5, 3, 4, 4, 4, 3, 3, 3, 1, 1, 2, 1, 5];
+pub const WIDTHS_03: [usize; 8] = [3, 3, 3, 3, 3, 4, 3, 1];
 
 /// Places of the fields that have limits of their own.
-const GRID_VOLTAGE: usize = 6;
-const BAND: usize = 8;
-const KEY: usize = 11;
-const MAINS_TAP: usize = 7;
+pub const GRID_VOLTAGE: usize = 6;
+pub const BAND: usize = 8;
+pub const KEY: usize = 11;
+pub const MAINS_TAP: usize = 7;
 
 #[derive(Clone, PartialEq, Eq, Debug)]
 pub enum Sentence {

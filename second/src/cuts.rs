@@ -3,6 +3,7 @@
 use crate::frames::{Family, LONGEST_INPUT};
 use crate::pieces;
 use crate::rng::Rng;
+use crate::spe::{AMPLIFIER_MARK, HOST_MARK};
 
 /// Call sizes at which something may change: none, one, around the marks, and
 /// around the longest frames.
@@ -35,6 +36,26 @@ pub fn whole_stream(rng: &mut Rng, stream: &[u8]) -> Vec<u8> {
             return script;
         }
     }
+}
+
+/// The frames of `pieces::ends`, each offered several times and each time cut
+/// in two at another place near where a report is decided or near its end.
+pub fn cut_ends(family: Family, rng: &mut Rng) -> Vec<u8> {
+    let mut script = Vec::new();
+    for frame in pieces::ends(family, rng) {
+        for _ in 0..3 {
+            let near_end = frame.len() - rng.below(7).min(frame.len());
+            // No call can offer more than 255 bytes.
+            let longest = frame.len().min(255);
+            let cut = rng.pick(&[73, 74, 75, 76, near_end]).min(longest);
+            push_offer(&mut script, b'o', &frame[..cut]);
+            push_offer(&mut script, b'o', &frame[cut..]);
+            let between = pieces::between_ends(family, rng);
+            push_offer(&mut script, b'o', &between);
+        }
+    }
+    script.extend(b"co\x00");
+    script
 }
 
 /// A script of exactly `length` bytes that is good to its end.
@@ -70,13 +91,14 @@ fn cut_stream(rng: &mut Rng, stream: &[u8]) -> Vec<u8> {
 fn cut_stream_with(rng: &mut Rng, stream: &[u8], thrown: usize) -> Vec<u8> {
     let mut script = Vec::new();
     let mut rest = stream;
-    let style = rng.below(4);
+    let style = rng.below(5);
     let fixed = rng.pick(&SIZES[1..]);
     while !rest.is_empty() {
         let size = match style {
             0 => fixed,
             1 => rng.pick(SIZES),
             2 => rng.below(256),
+            3 => behind_next_mark(rng, rest),
             _ => rng.pick(&[0, 1, 1, 1, 2]),
         };
         let size = size.min(rest.len());
@@ -88,6 +110,13 @@ fn cut_stream_with(rng: &mut Rng, stream: &[u8], thrown: usize) -> Vec<u8> {
         }
     }
     script
+}
+
+/// A size that ends a call where the next packet is about to be decided.
+fn behind_next_mark(rng: &mut Rng, rest: &[u8]) -> usize {
+    let is_mark = |byte: &u8| [AMPLIFIER_MARK, HOST_MARK, b'$'].contains(byte);
+    let before = rest.iter().position(is_mark).unwrap_or(0);
+    (before + rng.pick(&[3, 4, 5, 6, 73, 74, 75, 76])).min(255)
 }
 
 /// The same short stream again and again, each time cut in two at another

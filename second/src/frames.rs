@@ -52,8 +52,8 @@ pub fn frame_at_front(family: Family, bytes: &[u8]) -> Option<(Frame, usize)> {
             if let Some(code) = spe::acknowledgement_at_front(bytes) {
                 return Some((Frame::Acknowledgement(code), spe::CODE_LENGTH));
             }
-            let status = spe::status_at_front(bytes)?;
-            Some((Frame::Status(status), spe::STATUS_LENGTH))
+            let (status, length) = spe::status_at_front(bytes)?;
+            Some((Frame::Status(status), length))
         }
         Family::Alpha => {
             let (sentence, length) = alpha::sentence_at_front(bytes)?;
@@ -118,6 +118,7 @@ fn status_values(status: &spe::Status) -> Vec<String> {
     words.extend(status.numbers.iter().map(u16::to_string));
     words.push(letter(status.warning));
     words.push(letter(status.alarm));
+    words.push(u8::from(status.comma).to_string());
     words
 }
 

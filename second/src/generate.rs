@@ -28,6 +28,9 @@ impl What {
     }
 }
 
+/// So many indexes, from 0 on, are odd cases.
+pub const FIXED_CASES: u64 = 13;
+
 /// The family byte, then the capture or the script.
 ///
 /// The first indexes are the odd cases, so that even a short comparison has
@@ -35,7 +38,7 @@ impl What {
 pub fn input(what: What, family: Family, seed: u64, index: u64) -> Vec<u8> {
     let numbers = [what as u64, u64::from(family.ascii()), seed, index];
     let mut rng = Rng::from_numbers(&numbers);
-    let case = if index < 12 {
+    let case = if index < FIXED_CASES {
         index as usize
     } else {
         rng.below(1000)
@@ -44,7 +47,7 @@ pub fn input(what: What, family: Family, seed: u64, index: u64) -> Vec<u8> {
         0 => return Vec::new(),
         1 => return with_bad_family(&mut rng, what, family),
         2 => Vec::new(),
-        3 | 12..=18 => {
+        3 | 13..=18 => {
             let stream = pieces::catalogue(family, &mut rng);
             whole(what, &mut rng, stream)
         }
@@ -58,6 +61,7 @@ pub fn input(what: What, family: Family, seed: u64, index: u64) -> Vec<u8> {
             let stream = pieces::byte_sweep(family, &mut rng);
             whole(what, &mut rng, stream)
         }
+        12 | 101..=115 => ends(what, family, &mut rng),
         10 | 71..=85 => ordinary(what, family, &mut rng, 12_000),
         _ => {
             let length = rng.pick(&[60, 300, 300, 800, 800, 1500, 3000]);
@@ -89,6 +93,14 @@ fn ordinary(what: What, family: Family, rng: &mut Rng, length: usize) -> Vec<u8>
         capture.drain(..cut_off);
     }
     capture
+}
+
+/// Frames that go wrong at their ends, in a script cut there.
+fn ends(what: What, family: Family, rng: &mut Rng) -> Vec<u8> {
+    match what {
+        What::Capture => pieces::row_of_ends(family, rng),
+        What::Script => cuts::cut_ends(family, rng),
+    }
 }
 
 /// A stream made for a purpose: all of it matters, so it is offered whole.

@@ -3,12 +3,15 @@
 //! inputs and comparison. See README.md.
 
 mod alpha;
+#[cfg(test)]
+mod comma_tests;
 mod compare;
 mod cuts;
 mod frames;
 mod generate;
 mod listing;
 mod make_alpha;
+mod make_comma;
 mod make_spe;
 mod pieces;
 mod replay;

@@ -1,10 +1,12 @@
 //! Makes SPE packets for tests: sound ones with every field at its edges and
-//! in its middle, and ones in which exactly one rule is broken.
+//! in its middle, and ones in which exactly one rule is broken. Reports come in
+//! both forms; what can go wrong around the comma is made in `make_comma.rs`.
 
+use crate::make_comma;
 use crate::rng::Rng;
 use crate::spe::{
-    check_bytes, enclose_data, write_code, Id, AMPLIFIER_MARK, COMMAND_CODES, HOST_MARK,
-    STATUS_CODE,
+    check_bytes, enclose_data, write_code, Id, AMPLIFIER_MARK, COMMAND_CODES, HOST_MARK, LINE_END,
+    STATUS_CODE, STATUS_DATA,
 };
 
 /// Fields that break a rule of their own, separated by bars: the amplifier
@@ -96,14 +98,24 @@ pub fn sound_acknowledgement(rng: &mut Rng) -> Vec<u8> {
     write_code(AMPLIFIER_MARK, rng.pick(&COMMAND_CODES[..19]))
 }
 
+/// Both forms of a report are as frequent.
 pub fn sound_report(rng: &mut Rng) -> Vec<u8> {
-    let id = rng.pick(&[Id::Expert20K, Id::Expert13K]);
-    let fields = sound_fields(rng, id);
-    report_of(&fields)
+    let data = sound_data(rng);
+    in_either_form(rng, &data)
 }
 
-fn report_of(fields: &[String]) -> Vec<u8> {
-    enclose_data(format!(",{},", fields.join(",")).as_bytes())
+/// The data of a sound report, to be enclosed or spoiled and enclosed.
+pub fn sound_data(rng: &mut Rng) -> Vec<u8> {
+    let id = rng.pick(&[Id::Expert20K, Id::Expert13K]);
+    data_of(&sound_fields(rng, id))
+}
+
+fn data_of(fields: &[String]) -> Vec<u8> {
+    format!(",{},", fields.join(",")).into_bytes()
+}
+
+fn in_either_form(rng: &mut Rng, data: &[u8]) -> Vec<u8> {
+    enclose_data(data, rng.percent(50))
 }
 
 fn sound_fields(rng: &mut Rng, id: Id) -> Vec<String> {
@@ -206,6 +218,7 @@ pub fn all_broken_replies(rng: &mut Rng) -> Vec<Vec<u8>> {
     frames.extend((0..ENDINGS).map(|which| broken_ending(rng, which)));
     frames.push(report_with_a_field_less(rng));
     frames.push(report_with_shifted_comma(rng));
+    frames.extend(make_comma::all_broken_commas(rng));
     frames.extend(all_broken_codes(rng, AMPLIFIER_MARK));
     frames.push(write_code(AMPLIFIER_MARK, STATUS_CODE));
     frames
@@ -217,7 +230,7 @@ pub fn all_broken_commands(rng: &mut Rng) -> Vec<Vec<u8>> {
 
 /// One family 1 packet with one rule broken, by chance.
 pub fn broken_reply(rng: &mut Rng) -> Vec<u8> {
-    match rng.below(20) {
+    match rng.below(24) {
         0 => {
             let (place, byte) = (rng.below(20), rng.pick(NOT_COMMAS));
             report_with_other_comma(rng, place, byte)
@@ -230,6 +243,7 @@ pub fn broken_reply(rng: &mut Rng) -> Vec<u8> {
         5 => report_with_shifted_comma(rng),
         6 => write_code(AMPLIFIER_MARK, STATUS_CODE),
         7..=9 => broken_code(rng, AMPLIFIER_MARK),
+        10..=13 => make_comma::broken_comma(rng),
         _ => {
             let (amplifier, number, texts) = rng.pick(FIELD_BREAKAGES);
             let texts: Vec<&str> = texts.split('|').collect();
@@ -251,12 +265,7 @@ fn report_with_field(rng: &mut Rng, amplifier: &str, number: usize, text: &str) 
     };
     let mut fields = sound_fields(rng, id);
     fields[number - 1] = text.to_string();
-    report_of(&fields)
-}
-
-/// The data of a sound report, to be spoiled and enclosed again.
-fn sound_data(rng: &mut Rng) -> Vec<u8> {
-    sound_report(rng)[4..71].to_vec()
+    in_either_form(rng, &data_of(&fields))
 }
 
 fn report_with_other_comma(rng: &mut Rng, which: usize, byte: u8) -> Vec<u8> {
@@ -265,7 +274,7 @@ fn report_with_other_comma(rng: &mut Rng, which: usize, byte: u8) -> Vec<u8> {
         .filter(|place| data[*place] == b',')
         .collect();
     data[commas[which]] = byte;
-    enclose_data(&data)
+    in_either_form(rng, &data)
 }
 
 /// The mistake of the printed example: a number is missing and the rest moved
@@ -273,8 +282,9 @@ fn report_with_other_comma(rng: &mut Rng, which: usize, byte: u8) -> Vec<u8> {
 fn report_with_a_field_less(rng: &mut Rng) -> Vec<u8> {
     let mut fields = sound_fields(rng, Id::Expert20K);
     fields.remove(rng.between(9, 16));
-    let data = format!("{:<67}", format!(",{},", fields.join(",")));
-    enclose_data(data.as_bytes())
+    let mut data = data_of(&fields);
+    data.resize(STATUS_DATA, b' ');
+    in_either_form(rng, &data)
 }
 
 /// One field a digit wider and its neighbour a digit narrower.
@@ -283,13 +293,14 @@ fn report_with_shifted_comma(rng: &mut Rng) -> Vec<u8> {
     let place = rng.pick(&[10, 14, 15]);
     fields[place].insert(0, '0');
     fields[place + 1].remove(0);
-    report_of(&fields)
+    in_either_form(rng, &data_of(&fields))
 }
 
 /// A report that is sound but for its check bytes, line end, marks or count.
 fn broken_ending(rng: &mut Rng, which: usize) -> Vec<u8> {
     let mut frame = sound_report(rng);
     let [low, high] = check_bytes(&frame[4..71]);
+    let end = frame.len() - LINE_END.len();
     match which {
         0 => frame[71] = low.wrapping_add(1),
         1 => frame[71] = low.wrapping_sub(1),
@@ -299,12 +310,12 @@ fn broken_ending(rng: &mut Rng, which: usize) -> Vec<u8> {
         4 if low != high => frame.swap(71, 72),
         4 => frame[72] = !high,
         5 => frame[72] = 0,
-        6 => frame.swap(73, 74),
-        7 => frame[74] = 0x0D,
-        8 => frame[73] = 0x0A,
-        9 => frame[73] = rng.pick(&[0x00, b' ', 0x8D, 0x0C, 0x0E]),
-        10 => frame[74] = rng.pick(&[0x00, b' ', 0x8A, 0x0B, 0x09]),
-        11 => frame.truncate(73),
+        6 => frame.swap(end, end + 1),
+        7 => frame[end + 1] = 0x0D,
+        8 => frame[end] = 0x0A,
+        9 => frame[end] = rng.pick(&[0x00, b' ', 0x8D, 0x0C, 0x0E]),
+        10 => frame[end + 1] = rng.pick(&[0x00, b' ', 0x8A, 0x0B, 0x09]),
+        11 => frame.truncate(end),
         12 => frame[3] = rng.pick(&[0x00, 0x01, 0x02, 0x42, 0x44, 0x4B, 0xC3, 0xAA]),
         _ => frame[rng.below(3)] = rng.pick(&[0x55, 0xAB, 0x2A, 0x00]),
     }
@@ -356,5 +367,5 @@ pub fn changed_and_resealed(rng: &mut Rng) -> Vec<u8> {
         2 => rng.pick(b" .,0123456789"),
         _ => rng.pick(b"xABCDHKLMNOPRSTWYabrt"),
     };
-    enclose_data(&data)
+    in_either_form(rng, &data)
 }

@@ -5,9 +5,10 @@
 use crate::alpha::{check_digits, enclose_payload};
 use crate::frames::Family;
 use crate::rng::Rng;
-use crate::spe::{check_bytes, write_code, AMPLIFIER_MARK, CODE_COUNT, HOST_MARK};
-use crate::spe::{STATUS_COUNT, STATUS_DATA, STATUS_LENGTH};
-use crate::{make_alpha, make_spe};
+use crate::spe::{check_bytes, enclose_data, needed_bytes, write_code};
+use crate::spe::{AMPLIFIER_MARK, BEHIND_CHECK, CODE_COUNT, HOST_MARK};
+use crate::spe::{PLAIN_LENGTH, STATUS_COUNT, STATUS_DATA};
+use crate::{make_alpha, make_comma, make_spe};
 
 /// A stream of at least `length` bytes, longer by no more than two pieces.
 pub fn stream(family: Family, rng: &mut Rng, length: usize) -> Vec<u8> {
@@ -44,6 +45,51 @@ pub fn catalogue(family: Family, rng: &mut Rng) -> Vec<u8> {
         }
     }
     bytes
+}
+
+/// Frames at whose ends a reader may slip, each for itself: whole, and cut
+/// before one of the last bytes with a sound frame right behind; of reports
+/// also whatever can go wrong around the comma.
+pub fn ends(family: Family, rng: &mut Rng) -> Vec<Vec<u8>> {
+    let mut all = Vec::new();
+    for missing in 0..6 {
+        for _ in 0..2 {
+            let mut frame = sound_frame(family, rng);
+            frame.truncate(frame.len() - missing);
+            frame.extend(sound_frame(family, rng));
+            all.push(frame);
+        }
+    }
+    if family == Family::SpeReplies {
+        all.push(make_comma::RECORDED.to_vec());
+        all.extend(make_comma::all_broken_commas(rng));
+    }
+    all
+}
+
+/// The frames of `ends` in a row, some with bytes between that decide every
+/// start before them. The last one's end is also the stream's.
+pub fn row_of_ends(family: Family, rng: &mut Rng) -> Vec<u8> {
+    let mut bytes = Vec::new();
+    for frame in ends(family, rng) {
+        bytes.extend(frame);
+        bytes.extend(between_ends(family, rng));
+    }
+    let mut last = match family {
+        Family::SpeReplies => enclose_data(&make_spe::sound_data(rng), true),
+        _ => sound_frame(family, rng),
+    };
+    last.pop();
+    bytes.extend(last);
+    bytes
+}
+
+pub fn between_ends(family: Family, rng: &mut Rng) -> Vec<u8> {
+    match rng.below(3) {
+        0 => vec![0; PLAIN_LENGTH + 1],
+        1 => sound_frame(family, rng),
+        _ => Vec::new(),
+    }
 }
 
 /// Each of the 256 possible codes, or each sentence number with no fields.
@@ -83,7 +129,7 @@ fn reseal(family: Family, frame: &mut [u8], place: usize) {
             let digits = check_digits(&frame[1..length - 5]);
             frame[length - 4..].copy_from_slice(&digits);
         }
-    } else if length == STATUS_LENGTH {
+    } else if length >= PLAIN_LENGTH {
         if (4..4 + STATUS_DATA).contains(&place) {
             let sums = check_bytes(&frame[4..4 + STATUS_DATA]);
             frame[71..73].copy_from_slice(&sums);
@@ -111,7 +157,7 @@ fn broken_frame(family: Family, rng: &mut Rng) -> Vec<u8> {
 }
 
 /// Anything but a plain sound frame.
-fn piece(family: Family, rng: &mut Rng) -> Vec<u8> {
+pub fn piece(family: Family, rng: &mut Rng) -> Vec<u8> {
     match rng.below(20) {
         0..=6 => broken_frame(family, rng),
         7 | 8 => damaged_frame(family, rng),
@@ -223,7 +269,7 @@ fn rubbish(family: Family, rng: &mut Rng) -> Vec<u8> {
 fn run(rng: &mut Rng) -> Vec<u8> {
     let random = rng.between(1, 300);
     let length = rng.pick(&[
-        2, 3, 4, 5, 6, 7, 73, 74, 75, 76, 128, 129, 133, 134, 135, random,
+        2, 3, 4, 5, 6, 7, 73, 74, 75, 76, 77, 128, 129, 133, 134, 135, random,
     ]);
     let byte = rng.pick(&[
         AMPLIFIER_MARK,
@@ -256,11 +302,12 @@ fn frame_inside_frame(family: Family, rng: &mut Rng) -> Vec<u8> {
 }
 
 /// A report whose 67 data bytes hold acknowledgements or the begin of another
-/// report; its check bytes and line end may be right all the same.
+/// report; its check bytes and its end, of either form, may be right all the
+/// same.
 fn frames_in_report_data(rng: &mut Rng) -> Vec<u8> {
     let mut data = match rng.below(3) {
         0 => vec![0; rng.below(30)],
-        1 => make_spe::sound_report(rng)[4..4 + rng.between(1, 60)].to_vec(),
+        1 => make_spe::sound_data(rng)[..rng.between(1, 60)].to_vec(),
         _ => Vec::new(),
     };
     while data.len() < STATUS_DATA {
@@ -268,14 +315,14 @@ fn frames_in_report_data(rng: &mut Rng) -> Vec<u8> {
         data.extend(inner);
         data.extend(vec![rng.pick(&[0x00, AMPLIFIER_MARK, b',']); rng.below(8)]);
     }
-    let mut frame = vec![AMPLIFIER_MARK, AMPLIFIER_MARK, AMPLIFIER_MARK, STATUS_COUNT];
-    if rng.percent(50) {
+    if rng.percent(60) {
         data.truncate(STATUS_DATA);
     }
-    let sums = check_bytes(&data);
-    frame.extend(data);
-    frame.extend(sums);
-    frame.extend([0x0D, 0x0A]);
+    let mut frame = enclose_data(&data, rng.percent(50));
+    // A comma that belongs to something else makes the start wait as well.
+    if rng.percent(20) {
+        frame[BEHIND_CHECK] = b',';
+    }
     frame
 }
 
@@ -290,7 +337,7 @@ fn half_end_then_sentence(rng: &mut Rng) -> Vec<u8> {
 
 /// The end of a stream at which a start is still undecided. In a report's
 /// place whole acknowledgements may stand behind that start; only the close
-/// brings them out.
+/// brings them out. A comma at its place allows one byte more.
 fn undecided_end(family: Family, rng: &mut Rng) -> Vec<u8> {
     if family != Family::SpeReplies || rng.percent(20) {
         return shortened_frame(family, rng);
@@ -303,7 +350,12 @@ fn undecided_end(family: Family, rng: &mut Rng) -> Vec<u8> {
             bytes.extend(vec![rng.pick(&[0x00, AMPLIFIER_MARK]); rng.below(4)]);
         }
     }
-    bytes.truncate(rng.between(10, STATUS_LENGTH - 1));
+    if bytes.len() > BEHIND_CHECK && rng.percent(30) {
+        bytes[BEHIND_CHECK] = b',';
+    }
+    let longest = needed_bytes(&bytes) - 1;
+    let any = rng.between(10, longest);
+    bytes.truncate(rng.pick(&[any, any, longest]));
     bytes
 }
 

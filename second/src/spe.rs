@@ -8,10 +8,18 @@ pub const AMPLIFIER_MARK: u8 = 0xAA;
 pub const CODE_COUNT: u8 = 0x01;
 pub const CODE_LENGTH: usize = 6;
 
-/// The count byte of a status report, its data bytes and its whole length.
+/// The count byte of a status report and its data bytes, the same in both of
+/// its forms.
 pub const STATUS_COUNT: u8 = 0x43;
 pub const STATUS_DATA: usize = 67;
-pub const STATUS_LENGTH: usize = 75;
+
+/// The whole lengths of the two forms of a report. In the plain form the line
+/// end stands right behind the check bytes; in the comma form a comma comes
+/// between. The byte behind the check bytes alone tells which form it is.
+pub const PLAIN_LENGTH: usize = 75;
+pub const COMMA_LENGTH: usize = 76;
+pub const BEHIND_CHECK: usize = 73;
+pub const LINE_END: [u8; 2] = [0x0D, 0x0A];
 
 /// The command that asks for a status report. The report is its answer, so
 /// it is never acknowledged.
@@ -24,13 +32,13 @@ pub const COMMAND_CODES: [u8; 20] = [
 ];
 
 /// Widths of the 19 fields of a report's data.
-const WIDTHS: [usize; 19] = [3, 1, 1, 1, 1, 2, 2, 2, 1, 4, 5, 5, 4, 4, 3, 3, 3, 1, 1];
+pub const WIDTHS: [usize; 19] = [3, 1, 1, 1, 1, 2, 2, 2, 1, 4, 5, 5, 4, 4, 3, 3, 3, 1, 1];
 
 /// Digits behind the point in fields 10 to 17; 0 means there is no point.
-const DECIMALS: [usize; 8] = [0, 2, 2, 1, 1, 0, 0, 0];
+pub const DECIMALS: [usize; 8] = [0, 2, 2, 1, 1, 0, 0, 0];
 
-const WARNINGS: &[u8] = b"MASBPOYWKRTCN";
-const ALARMS: &[u8] = b"SADHCN";
+pub const WARNINGS: &[u8] = b"MASBPOYWKRTCN";
+pub const ALARMS: &[u8] = b"SADHCN";
 
 #[derive(Clone, Copy, PartialEq, Eq, Debug)]
 pub enum Id {
@@ -46,21 +54,21 @@ impl Id {
         }
     }
 
-    fn banks(self) -> &'static [u8] {
+    pub fn banks(self) -> &'static [u8] {
         match self {
             Id::Expert20K => b"x",
             Id::Expert13K => b"AB",
         }
     }
 
-    fn highest_band(self) -> u8 {
+    pub fn highest_band(self) -> u8 {
         match self {
             Id::Expert20K => 10,
             Id::Expert13K => 11,
         }
     }
 
-    fn highest_antenna(self) -> u8 {
+    pub fn highest_antenna(self) -> u8 {
         match self {
             Id::Expert20K => 6,
             Id::Expert13K => 4,
@@ -87,6 +95,8 @@ pub struct Status {
     pub numbers: [u16; 8],
     pub warning: u8,
     pub alarm: u8,
+    /// Whether the report had, and gets, a comma before its line end.
+    pub comma: bool,
 }
 
 // ---------------------------------------------------------------- reading
@@ -122,17 +132,27 @@ fn code_sent_twice(bytes: &[u8], mark: u8) -> Option<u8> {
     Some(bytes[4])
 }
 
-pub fn status_at_front(bytes: &[u8]) -> Option<Status> {
-    if bytes.len() < STATUS_LENGTH || bytes[..3] != [AMPLIFIER_MARK; 3] || bytes[3] != STATUS_COUNT
-    {
+/// The report that begins at the first of these bytes, with its length.
+pub fn status_at_front(bytes: &[u8]) -> Option<(Status, usize)> {
+    if bytes.len() < PLAIN_LENGTH || bytes[..3] != [AMPLIFIER_MARK; 3] || bytes[3] != STATUS_COUNT {
         return None;
     }
     let data = &bytes[4..4 + STATUS_DATA];
+    let comma = bytes[BEHIND_CHECK] == b',';
+    let length = status_length(comma);
     // The end is looked for at its fixed place: a check byte may itself be 0D.
-    if bytes[71..73] != check_bytes(data) || bytes[73..75] != [0x0D, 0x0A] {
+    if bytes[71..73] != check_bytes(data) || bytes.get(length - 2..length)? != LINE_END {
         return None;
     }
-    read_status_data(data)
+    Some((read_status_data(data, comma)?, length))
+}
+
+pub fn status_length(comma: bool) -> usize {
+    if comma {
+        COMMA_LENGTH
+    } else {
+        PLAIN_LENGTH
+    }
 }
 
 /// The sum of the data modulo 256, then that same sum divided by 256.
@@ -141,7 +161,7 @@ pub fn check_bytes(data: &[u8]) -> [u8; 2] {
     [(sum % 256) as u8, (sum / 256) as u8]
 }
 
-fn read_status_data(data: &[u8]) -> Option<Status> {
+fn read_status_data(data: &[u8], comma: bool) -> Option<Status> {
     let fields = split_fields(data)?;
     let id = read_id(fields[0])?;
     let (transmit_antenna, transmit_letter) = read_antenna(id, fields[6], b"tba")?;
@@ -168,6 +188,7 @@ fn read_status_data(data: &[u8]) -> Option<Status> {
         numbers,
         warning: read_letter(fields[17], WARNINGS)?,
         alarm: read_letter(fields[18], ALARMS)?,
+        comma,
     })
 }
 
@@ -252,8 +273,9 @@ fn read_padded_number(field: &[u8], decimals: usize) -> Option<u16> {
 // -------------------------------------------------------------- undecided
 
 /// Whether the packet that may begin here needs more bytes before anything
-/// can be said. Only the marks and the count are looked at, on purpose: both
-/// programs have to agree on when a start is given up.
+/// can be said. Only the marks, the count and the byte that tells a report's
+/// form are looked at, on purpose: both programs have to agree on when a start
+/// is given up.
 pub fn start_is_undecided(bytes: &[u8], mark: u8, allowed_counts: &[u8]) -> bool {
     if bytes.len() < 4 {
         return bytes.iter().all(|byte| *byte == mark);
@@ -261,12 +283,17 @@ pub fn start_is_undecided(bytes: &[u8], mark: u8, allowed_counts: &[u8]) -> bool
     if bytes[..3] != [mark; 3] || !allowed_counts.contains(&bytes[3]) {
         return false;
     }
-    let needed = if bytes[3] == CODE_COUNT {
+    bytes.len() < needed_bytes(bytes)
+}
+
+/// How many bytes decide a packet of which at least marks and count are there.
+/// A report whose form is not known yet needs no fewer than a plain one.
+pub fn needed_bytes(bytes: &[u8]) -> usize {
+    if bytes[3] == CODE_COUNT {
         CODE_LENGTH
     } else {
-        STATUS_LENGTH
-    };
-    bytes.len() < needed
+        status_length(bytes.get(BEHIND_CHECK) == Some(&b','))
+    }
 }
 
 // ---------------------------------------------------------------- writing
@@ -298,15 +325,19 @@ pub fn write_status(status: &Status) -> Vec<u8> {
     }
     fields.push(letter_text(status.warning));
     fields.push(letter_text(status.alarm));
-    enclose_data(format!(",{},", fields.join(",")).as_bytes())
+    enclose_data(format!(",{},", fields.join(",")).as_bytes(), status.comma)
 }
 
-/// Puts marks and count before the data, check bytes and line end behind it.
-pub fn enclose_data(data: &[u8]) -> Vec<u8> {
+/// Puts marks and count before the data, check bytes and line end behind it,
+/// with or without the comma between these two.
+pub fn enclose_data(data: &[u8], comma: bool) -> Vec<u8> {
     let mut frame = vec![AMPLIFIER_MARK, AMPLIFIER_MARK, AMPLIFIER_MARK, STATUS_COUNT];
     frame.extend_from_slice(data);
     frame.extend_from_slice(&check_bytes(data));
-    frame.extend_from_slice(&[0x0D, 0x0A]);
+    if comma {
+        frame.push(b',');
+    }
+    frame.extend_from_slice(&LINE_END);
     frame
 }
 

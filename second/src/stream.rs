@@ -21,15 +21,16 @@ pub struct Found {
     pub frame: Frame,
 }
 
+/// Any contents are a state to go on from, also one that no stream leads to.
 pub struct Reader {
-    family: Family,
+    pub family: Family,
     /// Bytes taken but not yet handed out or given up, in stream order.
-    held: Vec<u8>,
+    pub held: Vec<u8>,
     /// Place in the stream of the first held byte.
-    place: u32,
+    pub place: u32,
     /// Bytes given up since the last frame.
-    skipped: u32,
-    closed: bool,
+    pub skipped: u32,
+    pub closed: bool,
 }
 
 impl Reader {

@@ -11,9 +11,9 @@ use crate::spe::{check_bytes, enclose_data};
 use crate::stream::{Answer, Reader};
 use crate::{make_alpha, make_spe, pieces};
 
-const FAMILIES: [Family; 3] = [Family::SpeReplies, Family::Alpha, Family::SpeCommands];
-const CASE_2: &[u8] = b"\xAA\xAA\xAA\x01\x0D\x0D\xAA\xAA\xAA\x01\x09\x09";
-const CASE_5: &[u8] = b",20K,S,R,x,2,03,2t,0r,M,0000, 0.00, 0.00, 0.0, 0.0, 31, 29, 30,N,N,";
+pub const FAMILIES: [Family; 3] = [Family::SpeReplies, Family::Alpha, Family::SpeCommands];
+pub const CASE_2: &[u8] = b"\xAA\xAA\xAA\x01\x0D\x0D\xAA\xAA\xAA\x01\x09\x09";
+pub const CASE_5: &[u8] = b",20K,S,R,x,2,03,2t,0r,M,0000, 0.00, 0.00, 0.0, 0.0, 31, 29, 30,N,N,";
 const CASE_7: &[u8] = b"$APA05,11,18,1B,34,00,2A,01*A844";
 
 /// Sentences printed in the Alpha's document, with their line breaks undone.
@@ -27,7 +27,7 @@ const PRINTED: &[&str] = &[
     "$APA11,02,0000,00EA,0068,0068*72B4",
 ];
 
-fn good(family: Family, bytes: &[u8]) -> bool {
+pub fn good(family: Family, bytes: &[u8]) -> bool {
     match frame_at_front(family, bytes) {
         Some((_, length)) => length == bytes.len(),
         None => false,
@@ -35,14 +35,14 @@ fn good(family: Family, bytes: &[u8]) -> bool {
 }
 
 /// Start and skipped of each frame of a whole capture.
-fn places(family: Family, capture: &[u8]) -> Vec<(usize, usize)> {
+pub fn places(family: Family, capture: &[u8]) -> Vec<(usize, usize)> {
     list_frames(family, capture)
         .iter()
         .map(|line| (line.start, line.skipped))
         .collect()
 }
 
-fn values_of(family: Family, bytes: &[u8]) -> String {
+pub fn values_of(family: Family, bytes: &[u8]) -> String {
     match frame_at_front(family, bytes) {
         Some((frame, _)) => values(&frame).join(" "),
         None => "not good".to_string(),
@@ -51,7 +51,7 @@ fn values_of(family: Family, bytes: &[u8]) -> String {
 
 /// Offers a stream in calls of the given sizes, closes and drains; gives
 /// start and skipped of each frame, and the bytes taken up to each.
-fn read_in_calls(family: Family, stream: &[u8], sizes: &[usize]) -> Vec<(usize, usize, usize)> {
+pub fn read_in_calls(family: Family, stream: &[u8], sizes: &[usize]) -> Vec<(usize, usize, usize)> {
     let mut reader = Reader::fresh(family);
     let mut found = Vec::new();
     let (mut taken, mut offered) = (0, 0);
@@ -106,9 +106,9 @@ fn bench_case_4() {
 #[test]
 fn bench_cases_5_and_6() {
     assert_eq!(check_bytes(CASE_5), [0x6A, 0x0D]);
-    let mut frame = enclose_data(CASE_5);
+    let mut frame = enclose_data(CASE_5, false);
     assert_eq!(frame.len(), 75);
-    let expected = "20K S R x 2 3 2t 0 M 0 0 0 0 0 31 29 30 N N";
+    let expected = "20K S R x 2 3 2t 0 M 0 0 0 0 0 31 29 30 N N 0";
     assert_eq!(values_of(Family::SpeReplies, &frame), expected);
     frame.swap(71, 72);
     assert!(!good(Family::SpeReplies, &frame));
@@ -139,9 +139,13 @@ fn bench_cases_10_to_13() {
         assert_eq!(good(Family::Alpha, &enclose_payload(payload)), expected);
     }
     let data = ",13K,S,R,A,2,11,2t,0r,M,0000, 0.00, 0.00, 0.0, 0.0, 31,  0,000,N,N,";
-    assert!(good(Family::SpeReplies, &enclose_data(data.as_bytes())));
-    let data = String::from_utf8_lossy(CASE_5).replace(",03,", ",11,");
-    assert!(!good(Family::SpeReplies, &enclose_data(data.as_bytes())));
+    let data_20k = String::from_utf8_lossy(CASE_5).replace(",03,", ",11,");
+    for comma in [false, true] {
+        let report = enclose_data(data.as_bytes(), comma);
+        assert!(good(Family::SpeReplies, &report));
+        let report = enclose_data(data_20k.as_bytes(), comma);
+        assert!(!good(Family::SpeReplies, &report));
+    }
 }
 
 #[test]
@@ -165,7 +169,7 @@ fn refusals_of_the_programs() {
 
 #[test]
 fn example_of_replay() {
-    let frame = enclose_data(CASE_5);
+    let frame = enclose_data(CASE_5, false);
     let script = [
         &b"1o\x09\xAA\xAA\xAA\xAA\x01\x0D\x0D\xAA\x55f\x4B"[..],
         &frame,
@@ -175,7 +179,7 @@ fn example_of_replay() {
     let hexadecimal: String = frame.iter().map(|byte| format!("{:02X}", byte)).collect();
     let expected = format!(
         "frame 7 1 1 6 ack 0D | AAAAAA010D0D\nmore 2\n\
-         frame 75 9 2 75 status 20K S R x 2 3 2t 0 M 0 0 0 0 0 31 29 30 N N | {}\n\
+         frame 75 9 2 75 status 20K S R x 2 3 2t 0 M 0 0 0 0 0 31 29 30 N N 0 | {}\n\
          closed\ndone 0\nend\n",
         hexadecimal
     );
@@ -263,7 +267,7 @@ fn broken_frames_are_not_good() {
 #[test]
 fn stream_and_lister_find_the_same() {
     let mut rng = Rng::from_numbers(&[3]);
-    for (family, reach) in FAMILIES.iter().zip([75, 134, 6]) {
+    for (family, reach) in FAMILIES.iter().zip([76, 134, 6]) {
         for index in 8..600 {
             let input = generate::input(What::Capture, *family, 7, index);
             let capture = input.get(1..).unwrap_or(&[]);
@@ -283,12 +287,15 @@ fn stream_and_lister_find_the_same() {
 fn generated_inputs_have_allowed_lengths() {
     for family in FAMILIES {
         for what in [What::Capture, What::Script] {
-            for index in 12..1500 {
+            for index in generate::FIXED_CASES..1500 {
                 let input = generate::input(what, family, 11, index);
                 assert_eq!(input, generate::input(what, family, 11, index));
                 if input.len() > 65_537 {
                     assert!(input.len() <= 65_539);
                 }
+            }
+            for index in [3, 11, 12] {
+                assert!(generate::input(what, family, 11, index).len() <= 65_537);
             }
             assert_eq!(generate::input(what, family, 11, 4).len(), 65_537);
             assert_eq!(generate::input(what, family, 11, 5).len(), 65_538);

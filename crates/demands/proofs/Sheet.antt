@@ -4,7 +4,7 @@ use mathlib.Core.Path.{refl}
 use Rattle.rules.specs.Bytes.{total, oneOf, every, same}
 use Rattle.rules.specs.Numbers.{decimalFrom, padded, paddedNumber, pointed, pointedNumber, isHexDigit, hexDigitNumber}
 use Rattle.rules.specs.Codes.{isCode, isAckCode, isCommand, isAck}
-use Rattle.rules.specs.Status.{joined, isStatus, statusFrame, readable, statusInRange, statusOf}
+use Rattle.rules.specs.Status.{joined, isStatus, commaIn, statusFrame, readable, fieldsInRange, statusInRange, statusOf}
 use Rattle.rules.specs.Sentences.{areDecimals, betweenCommas, fit, givesSums, inRange02, inRange03, is02, is03, is05, isTemperature, numbers02, numbers03, sentence02, sentence03, temperature, isPayload, isPayloadByte, isSentence, sentence05, sum1From, sum2From}
 use Rattle.rules.specs.Answers.{readFamily1, readFamily2, readFamily3, readOne, readTexts}
 use Rattle.stream_rules.specs.Heads.{head, undecided, spe-undecided, payloadRun}
@@ -14,7 +14,7 @@ use Rattle.demands.specs.Bench.{BenchSheet}
 use Rattle.demands.specs.Said.{SaidSheet}
 
 pub sheet : BenchSheet
-unfolding readOne readFamily1 isStatus isAck isAckCode isCode oneOf total same every joined statusFrame readable statusInRange statusOf padded paddedNumber pointed pointedNumber decimalFrom readFamily2 readTexts isSentence isPayload isPayloadByte givesSums sum1From sum2From isHexDigit hexDigitNumber betweenCommas is05 sentence05 readFamily3 isCommand rule look call head undecided spe-undecided payloadRun fed shut fresh
+unfolding readOne readFamily1 isStatus isAck isAckCode isCode oneOf total same every joined commaIn statusFrame readable fieldsInRange statusInRange statusOf padded paddedNumber pointed pointedNumber decimalFrom readFamily2 readTexts isSentence isPayload isPayloadByte givesSums sum1From sum2From isHexDigit hexDigitNumber betweenCommas is05 sentence05 readFamily3 isCommand rule look call head undecided spe-undecided payloadRun fed shut fresh
 sheet = record {
   case1 = refl;
   case2 = refl;
@@ -25,8 +25,18 @@ sheet = record {
   case4-done = refl;
   case4-on = refl;
   case4-on-again = refl;
+  case4-comma = refl;
+  case4-comma-on = refl;
+  cut = refl;
+  cut-closed = refl;
+  cut-begun = refl;
+  cut-begun-closed = refl;
+  cut-on = refl;
+  cut-listed = refl;
   case5-total = refl;
   case5 = refl;
+  case5-comma = refl;
+  case5-comma-found = refl;
   case6 = refl;
   case7 = refl;
   case8 = refl;
@@ -38,13 +48,14 @@ sheet = record {
 }
 
 pub said-sheet : SaidSheet
-unfolding readOne readFamily1 isStatus isAck isAckCode isCode oneOf total same every joined statusFrame readable statusInRange statusOf padded paddedNumber pointed pointedNumber decimalFrom readFamily2 readTexts isSentence isPayload isPayloadByte givesSums sum1From sum2From isHexDigit hexDigitNumber betweenCommas is05 sentence05 readFamily3 isCommand rule look call head undecided spe-undecided payloadRun fed shut fresh is02 is03 sentence02 sentence03 areDecimals isTemperature temperature fit numbers02 numbers03 inRange02 inRange03
+unfolding readOne readFamily1 isStatus isAck isAckCode isCode oneOf total same every joined commaIn statusFrame readable fieldsInRange statusInRange statusOf padded paddedNumber pointed pointedNumber decimalFrom readFamily2 readTexts isSentence isPayload isPayloadByte givesSums sum1From sum2From isHexDigit hexDigitNumber betweenCommas is05 sentence05 readFamily3 isCommand rule look call head undecided spe-undecided payloadRun fed shut fresh is02 is03 sentence02 sentence03 areDecimals isTemperature temperature fit numbers02 numbers03 inRange02 inRange03
 said-sheet = record {
   case4 = refl;
   case4-on = refl;
   case4-on-again = refl;
   case4-done = refl;
   case5 = refl;
+  case5-comma = refl;
   case6 = refl;
   case7 = refl;
   case10 = refl;

@@ -43,6 +43,7 @@ status-told s t e =
       combiner = ap (number 17) e i;
       warning = ap (number 18) e i;
       alarm = ap (number 19) e i;
+      comma = ap (number 20) e i;
     }
 
 pub told-02 : (s t : Sentence02) → values (Apa02 s) ≡ values (Apa02 t) → s ≡ t

@@ -1,11 +1,13 @@
--- The cases of the bench sheet that are proved, 1 to 10, and 11 besides, gathered under one statement over the definitions.
+-- The cases of the bench sheet that are proved, 1 to 10, and 11 besides, gathered under one statement over the definitions;
+-- and with cases 4 and 5 those of the comma before the line end.
 use Prim.Native.Nat.{ℕ}
 use mathlib.Core.Path.{_≡_}
 use mathlib.Core.List.{List, [], _∷_, _++_, map}
-use lib.ListN.{take, replicate}
+use lib.ListN.{take, drop, replicate}
 use Rattle.rules.specs.Bytes.{ascii, total}
 use Rattle.rules.specs.Codes.{codes, ack}
 use Rattle.rules.specs.Answers.{readOne, notGood}
+use Rattle.rules.specs.declared.Status as StatusType
 use Rattle.rules.specs.declared.Sentence05.{Sentence05}
 use Rattle.rules.specs.declared.Frame.the-variants.{Ack, Status, Command, Apa05}
 use Rattle.rules.specs.declared.Reading.the-variants.{Good, Refused}
@@ -45,6 +47,39 @@ data5 = ascii ",20K,S,R,x,2,03,2t,0r,M,0000, 0.00, 0.00, 0.0, 0.0, 31, 29, 30,N,
 abbrev pub report5 : ℕ → ℕ → List ℕ
 report5 a b = 0xAA ∷ 0xAA ∷ 0xAA ∷ 0x43 ∷ data5 ++ a ∷ b ∷ 0x0D ∷ 0x0A ∷ []
 
+-- what it says, with a comma before its line end or without
+abbrev pub record5 : ℕ → StatusType.Status
+record5 comma = record {
+  id = 20;
+  state = 83;
+  direction = 82;
+  bank = 120;
+  input = 2;
+  band = 3;
+  transmit = 2;
+  tuner = 116;
+  receive = 0;
+  level = 77;
+  watts = 0;
+  swratu = 0;
+  swrant = 0;
+  volts = 0;
+  amperes = 0;
+  upper = 31;
+  lower = 29;
+  combiner = 30;
+  warning = 78;
+  alarm = 78;
+  comma = comma;
+}
+
+-- the same report with the comma, and what of it is there before its last byte
+abbrev pub reportComma : List ℕ
+reportComma = 0xAA ∷ 0xAA ∷ 0xAA ∷ 0x43 ∷ data5 ++ 0x6A ∷ 0x0D ∷ 0x2C ∷ 0x0D ∷ 0x0A ∷ []
+
+abbrev pub cutComma : List ℕ
+cutComma = take 75 reportComma
+
 abbrev pub sentence7 : List ℕ
 sentence7 = ascii "$APA05,11,18,1B,34,00,2A,01*A844"
 
@@ -83,11 +118,38 @@ closed4 = fed (shut (first4 .reader) .reader) []
 abbrev pub closed4-again : Fed
 closed4-again = fed (closed4 .reader) []
 
+-- A reader that was given a report with the comma but for its last byte, and then an acknowledgement but for its last byte,
+-- or closed; and the same with that byte.
+abbrev pub firstCut : Fed
+firstCut = fed (fresh 1 .reader) cutComma
+
+abbrev pub begunCut : Fed
+begunCut = fed (firstCut .reader) (take 5 ack0D)
+
+abbrev pub onCut : Fed
+onCut = fed (begunCut .reader) (drop 5 ack0D)
+
+abbrev pub closedCut : Fed
+closedCut = fed (shut (firstCut .reader) .reader) []
+
+abbrev pub closedBegun : Fed
+closedBegun = fed (shut (begunCut .reader) .reader) []
+
+-- Case 4 with a comma for the byte behind the checksum, the 74th: a reader after 75 bytes, and one more
+abbrev pub comma4 : Fed
+comma4 = fed (fresh 1 .reader) (bytes4 ++ replicate 57 0 ++ 0x2C ∷ 0 ∷ [])
+
+abbrev pub onComma4 : Fed
+onComma4 = fed (comma4 .reader) (replicate 2 0)
+
 abbrev pub acknowledged : ℕ → ℕ → ℕ → ℕ → Answer
 acknowledged taken start skipped code = Ready (record { taken = taken; start = start; skipped = skipped; length = 6; frame = Ack code })
 
 abbrev pub foundAck : ℕ → ℕ → ℕ → Found
 foundAck start skipped code = record { start = start; skipped = skipped; length = 6; frame = Ack code }
+
+abbrev pub foundReport : ℕ → ℕ → ℕ → Found
+foundReport start length comma = record { start = start; skipped = 0; length = length; frame = Status (record5 comma) }
 
 abbrev pub emptied : ℕ → Fed
 emptied family = fed (shut (fresh family .reader) .reader) []
@@ -108,31 +170,25 @@ pub record BenchSheet : Type 0 where
   -- With 59 zero bytes more, which make 75, the first comes; and the second before another byte is taken.
   pub case4-on : on4 .answer ≡ acknowledged 59 4 4 0x0D
   pub case4-on-again : on4-again .answer ≡ acknowledged 0 10 0 0x09
+  -- With the comma of [3] in the 74th place they come once byte 76 is taken.
+  pub case4-comma : comma4 .answer ≡ More 75
+  pub case4-comma-on : onComma4 .answer ≡ acknowledged 1 4 4 0x0D
+  -- A report with the comma, cut before its last byte: nothing is handed out on its 75 bytes, nor at close.
+  pub cut : firstCut .answer ≡ More 75
+  pub cut-closed : closedCut .answer ≡ Done 0
+  -- Behind it an acknowledgement has begun: the report is no more, and more is wanted; at close there is nothing. With
+  -- the last byte the acknowledgement comes, with the 75 bytes skipped before it.
+  pub cut-begun : begunCut .answer ≡ More 5
+  pub cut-begun-closed : closedBegun .answer ≡ Done 0
+  pub cut-on : onCut .answer ≡ acknowledged 1 75 75 0x0D
+  pub cut-listed : frames 1 (cutComma ++ ack0D) ≡ foundAck 75 75 0x0D ∷ []
   -- 5. The data sums to 3,434, and with check bytes 6A 0D the report is good.
   pub case5-total : total data5 ≡ 3434
-  pub case5 : readOne 1 (report5 0x6A 0x0D)
-      ≡ Good (Status (record {
-        id = 20;
-        state = 83;
-        direction = 82;
-        bank = 120;
-        input = 2;
-        band = 3;
-        transmit = 2;
-        tuner = 116;
-        receive = 0;
-        level = 77;
-        watts = 0;
-        swratu = 0;
-        swrant = 0;
-        volts = 0;
-        amperes = 0;
-        upper = 31;
-        lower = 29;
-        combiner = 30;
-        warning = 78;
-        alarm = 78;
-      }))
+  pub case5 : readOne 1 (report5 0x6A 0x0D) ≡ Good (Status (record5 0))
+  -- With a comma before the line end, 76 bytes, it is good too; and a comma behind the 75 bytes of the other is none of it.
+  pub case5-comma : readOne 1 reportComma ≡ Good (Status (record5 1))
+  pub case5-comma-found : frames 1 (reportComma ++ report5 0x6A 0x0D ++ 0x2C ∷ [])
+      ≡ foundReport 0 76 1 ∷ foundReport 76 75 0 ∷ []
   -- 6. The same with 0D 6A is not good.
   pub case6 : readOne 1 (report5 0x0D 0x6A) ≡ Refused notGood
   -- 7. Nibbles 1 1, 1 8, 1 11, 3 4; then 0, 42, 1.

@@ -8,7 +8,7 @@ use Rattle.rules.specs.Bytes.{ascii}
 use Rattle.rules.specs.Answers.{readOne, said, no, yes, aFrame, moreWanted, nowDone}
 use Rattle.rules.specs.declared.Kind.the-variants.{OfAck, OfStatus, OfCommand, OfSentence}
 use Rattle.stream_rules.specs.Streams.{fed, saidToFeed}
-use Rattle.demands.specs.Bench.{report5, sentence7, first4, on4, on4-again, closed4-again}
+use Rattle.demands.specs.Bench.{report5, reportComma, sentence7, first4, on4, on4-again, closed4-again}
 
 abbrev numbers : List ℕ → List ℤ
 numbers ns = map pos ns
@@ -20,9 +20,12 @@ pub record SaidSheet : Type 0 where
   pub case4-on : saidToFeed (on4 .answer) ≡ yes (aFrame (OfAck 0x0D)) (numbers (59 ∷ 4 ∷ 4 ∷ 6 ∷ []))
   pub case4-on-again : saidToFeed (on4-again .answer) ≡ yes (aFrame (OfAck 0x09)) (numbers (0 ∷ 10 ∷ 0 ∷ 6 ∷ []))
   pub case4-done : saidToFeed (fed (closed4-again .reader) [] .answer) ≡ yes nowDone (numbers (0 ∷ []))
-  -- Case 5: ID 20, S, R, x, input 2, band 3, antenna 2 t, antenna 0, M, no power, and 31, 29 and 30 degrees, N, N.
+  -- Case 5: ID 20, S, R, x, input 2, band 3, antenna 2 t, antenna 0, M, no power, and 31, 29 and 30 degrees, N, N, and no
+  -- comma before the line end; or one.
   pub case5 : said (readOne 1 (report5 0x6A 0x0D))
-      ≡ yes (aFrame OfStatus) (numbers (20 ∷ 83 ∷ 82 ∷ 120 ∷ 2 ∷ 3 ∷ 2 ∷ 116 ∷ 0 ∷ 77 ∷ 0 ∷ 0 ∷ 0 ∷ 0 ∷ 0 ∷ 31 ∷ 29 ∷ 30 ∷ 78 ∷ 78 ∷ []))
+      ≡ yes (aFrame OfStatus) (numbers (20 ∷ 83 ∷ 82 ∷ 120 ∷ 2 ∷ 3 ∷ 2 ∷ 116 ∷ 0 ∷ 77 ∷ 0 ∷ 0 ∷ 0 ∷ 0 ∷ 0 ∷ 31 ∷ 29 ∷ 30 ∷ 78 ∷ 78 ∷ 0 ∷ []))
+  pub case5-comma : said (readOne 1 reportComma)
+      ≡ yes (aFrame OfStatus) (numbers (20 ∷ 83 ∷ 82 ∷ 120 ∷ 2 ∷ 3 ∷ 2 ∷ 116 ∷ 0 ∷ 77 ∷ 0 ∷ 0 ∷ 0 ∷ 0 ∷ 0 ∷ 31 ∷ 29 ∷ 30 ∷ 78 ∷ 78 ∷ 1 ∷ []))
   pub case6 : said (readOne 1 (report5 0x0D 0x6A)) ≡ no 8
   pub case7 : said (readOne 2 sentence7) ≡ yes (aFrame (OfSentence 5)) (numbers (1 ∷ 1 ∷ 1 ∷ 8 ∷ 1 ∷ 11 ∷ 3 ∷ 4 ∷ 0 ∷ 42 ∷ 1 ∷ []))
   pub case10 : said (readOne 3 (0x55 ∷ 0x55 ∷ 0x55 ∷ 0x01 ∷ 0x90 ∷ 0x90 ∷ [])) ≡ yes (aFrame (OfCommand 0x90)) []

@@ -11,13 +11,14 @@ use lib.ListN.{length, take, getD}
 use borrow.Author.Tests.{eqb-true}
 use Rattle.rules.specs.Bytes.{first, every, total}
 use Rattle.rules.specs.Numbers.{isDigit, decimal, paddedNumber, withZeros, withSpaces}
-use Rattle.rules.specs.Status.{widths, cut, field, joined, statusTexts, statusOf, readable, statusFrame, dataOf, statusBytes, statusInRange, isStatus}
+use Rattle.rules.specs.Status.{widths, cut, field, joined, statusTexts, statusOf, readable, commaIn, statusFrame, dataOf, statusIn, statusBytes, statusInRange, isStatus}
 use Rattle.rules.specs.Form.{zerosInFront, spacesInFront, statusForm}
 use Rattle.rules.specs.declared.Status.{Status}
 use Rattle.frame_laws.proofs.Bytes.{tests, same-eq, between-bounds}
 use Rattle.frame_laws.proofs.Numbers.{one-digit, zeros-digits, zeros-write, digits-padded-number, spaces-form, spaces-write, point-form, point-write}
 use Rattle.frame_laws.proofs.Fields.{cut-widths}
-use Rattle.frame_laws.proofs.Report.{Fits, fits, text-at, texts-length, data-in-frame, frame-length}
+use Rattle.frame_laws.proofs.Comma.{data-length}
+use Rattle.frame_laws.proofs.Report.{Fits, fits, text-at, data-back}
 
 -- The texts of a record that fits are in the form.
 pub texts-form : (s : Status) → Fits s → statusForm (joined (statusTexts s)) ≡ true
@@ -69,14 +70,14 @@ zeros-text w t l e = rw (digits-padded-number t e) (digits-text w t l e)
 spaces-text : (w : ℕ) (t : List ℕ) → length t ≡ w → spacesInFront t ≡ true → withSpaces w (paddedNumber t) ≡ t
 spaces-text w t l e = rw (← l) (spaces-write t e)
 
--- 67 readable bytes in the form are the texts of their record.
-module _ (d : List ℕ) (l : length d ≡ 67) (r : readable d ≡ true) (f : statusForm d ≡ true) where
+-- 67 readable bytes in the form are the texts of their record, with a comma or without.
+module _ (comma : ℕ) (d : List ℕ) (l : length d ≡ 67) (r : readable d ≡ true) (f : statusForm d ≡ true) where
   -- the width of a field, its place counted from 0
   width-at : (k : ℕ) → getD (map length (cut 0 widths d)) k 0 ≡ getD widths k 0
   unfolding total
   width-at k = ap (λ (ws : List ℕ). getD ws k 0) (cut-widths 0 widths d (omega arith))
 
-  pub form-texts : statusTexts (statusOf d) ≡ cut 0 widths d
+  pub form-texts : statusTexts (statusOf comma d) ≡ cut 0 widths d
   unfolding statusTexts statusOf readable statusForm
   form-texts =
       rw (
@@ -103,24 +104,27 @@ module _ (d : List ℕ) (l : length d ≡ 67) (r : readable d ≡ true) (f : sta
 
 -- A good report, written again.
 module _ (bs : List ℕ) (good : isStatus bs ≡ true) where
-  pub in-frame : bs ≡ statusFrame (dataOf bs)
+  pub in-frame : bs ≡ statusFrame (commaIn bs) (dataOf bs)
   unfolding isStatus
-  in-frame = same-eq bs (statusFrame (dataOf bs)) (search tests depth 20)
+  in-frame = same-eq bs (statusFrame (commaIn bs) (dataOf bs)) (search tests depth 20)
 
   joined-again : dataOf bs ≡ joined (cut 0 widths (dataOf bs))
   unfolding isStatus
   joined-again = same-eq (dataOf bs) (joined (cut 0 widths (dataOf bs))) (search tests depth 20)
 
-  pub report-in-range : statusInRange (statusOf (dataOf bs)) ≡ true
+  pub report-in-range : statusInRange (statusIn bs) ≡ true
   unfolding isStatus
   report-in-range = search tests
 
-  pub form-of-written : statusBytes (statusOf (dataOf bs)) ≡ bs → statusForm (dataOf bs) ≡ true
+  pub form-of-written : statusBytes (statusIn bs) ≡ bs → statusForm (dataOf bs) ≡ true
   form-of-written e =
-      let s = statusOf (dataOf bs) in
-      let data-again : joined (statusTexts s) ≡ dataOf bs = sym (data-in-frame (joined (statusTexts s)) (texts-length s)) ∙ ap dataOf e in
-      subst (λ (d : List ℕ). statusForm d ≡ true) data-again (texts-form s (fits s report-in-range))
+      let s = statusIn bs in
+      let in-range = fits s report-in-range in
+      let data-again : joined (statusTexts s) ≡ dataOf bs = sym (data-back s in-range) ∙ ap dataOf e in
+      subst (λ (d : List ℕ). statusForm d ≡ true) data-again (texts-form s in-range)
 
-  pub written-of-form : statusForm (dataOf bs) ≡ true → statusBytes (statusOf (dataOf bs)) ≡ bs
-  unfolding isStatus
-  written-of-form f = ap statusFrame (ap joined (form-texts (dataOf bs) (frame-length bs in-frame) (search tests depth 20) f) ∙ sym joined-again) ∙ sym in-frame
+  pub written-of-form : statusForm (dataOf bs) ≡ true → statusBytes (statusIn bs) ≡ bs
+  unfolding isStatus statusOf
+  written-of-form f =
+      let texts = form-texts (commaIn bs) (dataOf bs) (data-length bs (ap length in-frame)) (search tests depth 20) f in
+      ap (statusFrame (commaIn bs)) (ap joined texts ∙ sym joined-again) ∙ sym in-frame

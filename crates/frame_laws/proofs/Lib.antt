@@ -1,6 +1,6 @@
 -- Laws about the definitions, file by file as those stand; what answers say in the terms of document 01, and that each
 -- promise leaves one answer. `Exact` says what it is to be a frame of each kind; `Spe` has the theorems of families 1 and
--- 3, which `Report` and `Form` serve, and `Alpha` those of family 2.
+-- 3, which `Comma`, `Report` and `Form` serve, and `Alpha` those of family 2.
 pub mod Tables
 pub mod Bytes
 pub mod Lists
@@ -11,6 +11,7 @@ pub mod SentenceFields
 pub mod SentenceRecords
 pub mod Saying
 pub mod Single
+pub mod Comma
 pub mod Report
 pub mod Form
 pub mod Exact

@@ -3,22 +3,23 @@
 -- The laws of numbers in fields say so text by text; the ranges of the record give their bounds. Assumes nothing.
 use Prim.Native.Nat.{ℕ, suc, _+_, _-_, _/_, _%_, _≤_, _<_}
 use Prim.Native.Char.{code}
-use mathlib.Core.Path.{_≡_, refl, ap, _∙_}
+use mathlib.Core.Path.{_≡_, refl, ap, ap₂, _∙_}
 use mathlib.Core.Bool.{Bool, true, false, cond}
 use mathlib.Core.List.{List, [], _∷_, map}
 use native.Mathlib.Omega.{arith}
 use native.Mathlib.Nat.{le-trans}
 use lib.Dec.{eqb, leb, ltb, lit≤}
-use lib.ListN.{length, getD, length-append, length-take, length-drop, drop}
+use lib.ListN.{length, getD, length-append}
 use lib.Seq.{take-at}
 use borrow.Author.Tests.{ltb-true, leb-true}
 use Rattle.rules.specs.Bytes.{every, total}
 use Rattle.rules.specs.Numbers.{withZeros, withSpaces}
-use Rattle.rules.specs.Status.{widths, cut, by, joined, statusFrame, dataOf, statusTexts, statusBytes, statusInRange, statusOf, readable, isStatus}
+use Rattle.rules.specs.Status.{widths, cut, by, joined, commaIn, statusFrame, dataOf, statusTexts, statusBytes, fieldsInRange, statusInRange, statusOf, statusIn, readable, isStatus}
 use Rattle.rules.specs.declared.Status.{Status}
 use Rattle.frame_laws.proofs.Bytes.{tests, one-of-these, same-refl}
 use Rattle.frame_laws.proofs.Numbers.{digit-of, zeros-length, zeros-digits, zeros-read, zeros-padded, zeros-padded-read, spaces-length, spaces-form, spaces-read, form-padded, point-length, point-pointed, point-read}
 use Rattle.frame_laws.proofs.Fields.{cut-joined, joined-length}
+use Rattle.frame_laws.proofs.Comma.{comma-in-frame}
 
 -- The bounds of the numbers, as their fields need them.
 pub record Fits (s : Status) : Type 0 where
@@ -35,6 +36,7 @@ pub record Fits (s : Status) : Type 0 where
   pub upper : s .upper ≤ 999
   pub lower : s .lower ≤ 999
   pub combiner : s .combiner ≤ 999
+  pub comma : s .comma ≤ 1
 
 -- what is at most one of two bounds, by the ID, is at most the larger
 by-at-most : (id a b n m : ℕ) → a ≤ n → b ≤ n → leb m (by id a b) ≡ true → m ≤ n
@@ -45,7 +47,7 @@ by-at-most id a b n m p q e = le-trans (leb-true m (by id a b) e) (larger (eqb i
     larger false = q
 
 pub fits : (s : Status) → statusInRange s ≡ true → Fits s
-unfolding statusInRange every
+unfolding statusInRange fieldsInRange every
 fits s e = record {
   id = ltb-true (s .id) 100 (one-of-these (λ n. ltb n 100) (20 ∷ 13 ∷ []) (s .id) refl (search tests depth 25));
   input = search (tests, leb-true) depth 25;
@@ -60,6 +62,7 @@ fits s e = record {
   upper = search (tests, leb-true) depth 25;
   lower = by-at-most (s .id) 999 0 999 (s .lower) (lit≤ tt) (lit≤ tt) (search tests depth 25);
   combiner = by-at-most (s .id) 999 0 999 (s .combiner) (lit≤ tt) (lit≤ tt) (search tests depth 25);
+  comma = search (tests, leb-true) depth 25;
 }
 
 -- The texts of a record have the widths, whatever it holds.
@@ -79,15 +82,9 @@ pub text-at : (s : Status) (k : ℕ) → getD (cut 0 widths (joined (statusTexts
 text-at s k = ap (λ (ts : List (List ℕ)). getD ts k []) (texts-back s)
 
 -- The 67 bytes of the data stand in the frame.
-pub data-in-frame : (d : List ℕ) → length d ≡ 67 → dataOf (statusFrame d) ≡ d
+pub data-in-frame : (comma : ℕ) (d : List ℕ) → length d ≡ 67 → dataOf (statusFrame comma d) ≡ d
 unfolding statusFrame
-data-in-frame d l = take-at d _ 67 l
-
-pub frame-length : (bs : List ℕ) → bs ≡ statusFrame (dataOf bs) → length (dataOf bs) ≡ 67
-unfolding statusFrame
-frame-length bs e =
-    let d = dataOf bs in
-    omega (arith, ap length e, length-append d (total d % 256 ∷ total d / 256 ∷ 0x0D ∷ 0x0A ∷ []), length-take 67 (drop 4 bs), length-drop 4 bs)
+data-in-frame comma d l = take-at d _ 67 l
 
 digit-read : (n : ℕ) → code "0" + n / 1 - code "0" ≡ n
 digit-read n = omega arith
@@ -113,7 +110,7 @@ module _ (s : Status) (f : Fits s) where
         form-padded (withSpaces 3 (s .combiner)) (spaces-form 3 (s .combiner) (omega arith) (omega arith)),
       ))
 
-  pub texts-values : statusOf (joined (statusTexts s)) ≡ s
+  pub texts-values : statusOf (s .comma) (joined (statusTexts s)) ≡ s
   unfolding statusOf statusTexts withZeros
   texts-values =
       rw (text-at s 0, text-at s 1, text-at s 2, text-at s 3, text-at s 4, text-at s 5, text-at s 6, text-at s 7, text-at s 8, text-at s 9, text-at s 10, text-at s 11, text-at s 12, text-at s 13, text-at s 14, text-at s 15, text-at s 16, text-at s 17, text-at s 18)
@@ -133,8 +130,18 @@ module _ (s : Status) (f : Fits s) where
         spaces-read 3 (s .combiner) (omega arith) (omega arith),
       ))
 
-  -- its bytes are, as a whole, a good report
+  -- its bytes have the record's form and its data, and so its record
+  pub data-back : dataOf (statusBytes s) ≡ joined (statusTexts s)
+  data-back = data-in-frame (s .comma) (joined (statusTexts s)) (texts-length s)
+
+  comma-back : commaIn (statusBytes s) ≡ s .comma
+  comma-back = comma-in-frame (s .comma) (joined (statusTexts s)) (texts-length s) (f .comma)
+
+  pub record-back : statusIn (statusBytes s) ≡ s
+  record-back = ap₂ statusOf comma-back data-back ∙ texts-values
+
+  -- and are, as a whole, a good report
   pub report-good : statusInRange s ≡ true → isStatus (statusBytes s) ≡ true
   unfolding isStatus
   report-good e =
-      rw (data-in-frame (joined (statusTexts s)) (texts-length s), texts-back s, same-refl (statusFrame (joined (statusTexts s))), same-refl (joined (statusTexts s)), texts-readable, texts-values, e)
+      rw (comma-back, data-back, texts-back s, same-refl (statusFrame (s .comma) (joined (statusTexts s))), same-refl (joined (statusTexts s)), texts-readable, texts-values, e)

@@ -9,7 +9,7 @@ use mathlib.Core.Logic.{_↔_, ⊎-elim}
 use native.Mathlib.Omega.{arith}
 use lib.ListN.{getD}
 use Rattle.rules.specs.Codes.{isCode, isAckCode, command, isCommand, ack, isAck}
-use Rattle.rules.specs.Status.{joined, statusFrame, statusTexts, dataOf, statusOf, statusBytes, isStatus}
+use Rattle.rules.specs.Status.{statusFrame, statusIn, statusBytes, isStatus}
 use Rattle.rules.specs.Answers.{readOne, readFamily1, readFamily3, notGood, allowed, bytesOf}
 use Rattle.rules.specs.Form.{inForm}
 use Rattle.rules.specs.declared.Status as StatusType
@@ -18,7 +18,7 @@ use Rattle.rules.specs.declared.Frame.the-variants.{Ack, Status, Command}
 use Rattle.rules.specs.declared.Reading.{Reading}
 use Rattle.rules.specs.declared.Reading.the-variants.{Good, Refused}
 use Rattle.frame_laws.proofs.Bytes.{tests, answer, same-eq, same-refl}
-use Rattle.frame_laws.proofs.Report.{fits, report-good, texts-values, texts-length, data-in-frame}
+use Rattle.frame_laws.proofs.Report.{fits, report-good, record-back}
 use Rattle.frame_laws.proofs.Form.{report-in-range, form-of-written, written-of-form, in-frame}
 
 -- What the reader of family 3 answers, by the test of a command.
@@ -49,7 +49,7 @@ report-no-ack bs g =
 -- What the reader of family 1 answers, by its two tests.
 pub data Answer1 (bs : List ℕ) (r : Reading) : Type 0 where
   an-ack : isAck bs ≡ true → r ≡ Good (Ack (getD bs 4 0)) → Answer1 bs r
-  a-report : isStatus bs ≡ true → r ≡ Good (Status (statusOf (dataOf bs))) → Answer1 bs r
+  a-report : isStatus bs ≡ true → r ≡ Good (Status (statusIn bs)) → Answer1 bs r
   neither : isAck bs ≡ false → isStatus bs ≡ false → r ≡ Refused notGood → Answer1 bs r
 
 pub answer-1 : (bs : List ℕ) → Answer1 bs (readOne 1 bs)
@@ -99,11 +99,11 @@ ack-exact bs c = (exact (readOne 1 bs) (answer-1 bs), λ h. rw (h .0, same-refl 
     exact r (neither h g q) e = (cc, cc)
 
 -- Bytes read as a report s if, and only if, they are a good report, and s holds the values of its data.
-pub status-exact : (bs : List ℕ) (s : StatusType.Status) → (readOne 1 bs ≡ Good (Status s)) ↔ ((isStatus bs ≡ true) × (s ≡ statusOf (dataOf bs)))
+pub status-exact : (bs : List ℕ) (s : StatusType.Status) → (readOne 1 bs ≡ Good (Status s)) ↔ ((isStatus bs ≡ true) × (s ≡ statusIn bs))
 unfolding readOne readFamily1
 status-exact bs s = (exact (readOne 1 bs) (answer-1 bs), λ h. rw (report-no-ack bs (h .0), h .0, h .1))
   where
-    exact : (r : Reading) → Answer1 bs r → r ≡ Good (Status s) → (isStatus bs ≡ true) × (s ≡ statusOf (dataOf bs))
+    exact : (r : Reading) → Answer1 bs r → r ≡ Good (Status s) → (isStatus bs ≡ true) × (s ≡ statusIn bs)
     exact r (an-ack h q) e = (cc, cc)
     exact r (a-report h q) e = (h, cc)
     exact r (neither h g q) e = (cc, cc)
@@ -130,8 +130,7 @@ command-back c e = command-exact (command c) c .1 (refl, e)
 pub status-back : (s : StatusType.Status) → allowed (Status s) ≡ true → readOne 1 (bytesOf (Status s)) ≡ Good (Status s)
 unfolding allowed bytesOf
 status-back s e =
-    status-exact (statusBytes s) s .1
-    (report-good s (fits s e) e, sym (ap statusOf (data-in-frame (joined (statusTexts s)) (texts-length s)) ∙ texts-values s (fits s e)))
+    status-exact (statusBytes s) s .1 (report-good s (fits s e) e, sym (record-back s (fits s e)))
 
 -- What is read is allowed.
 pub family1-allowed : (bs : List ℕ) (f : Frame) → readOne 1 bs ≡ Good f → allowed f ≡ true
@@ -140,7 +139,7 @@ family1-allowed bs f = case (readOne 1 bs) (answer-1 bs)
   where
     case : (r : Reading) → Answer1 bs r → r ≡ Good f → allowed f ≡ true
     case r (an-ack h q) e = let f-is : f ≡ Ack (getD bs 4 0) = cc in rw f-is (search tests)
-    case r (a-report h q) e = let f-is : f ≡ Status (statusOf (dataOf bs)) = cc in rw f-is (report-in-range bs h)
+    case r (a-report h q) e = let f-is : f ≡ Status (statusIn bs) = cc in rw f-is (report-in-range bs h)
     case r (neither h g q) e = cc
 
 pub family3-allowed : (bs : List ℕ) (f : Frame) → readOne 3 bs ≡ Good f → allowed f ≡ true
@@ -161,7 +160,7 @@ family1-again bs f = case (readOne 1 bs) (answer-1 bs)
         let f-is : f ≡ Ack (getD bs 4 0) = cc in
         rw f-is ((λ _. refl), (λ _. sym (same-eq bs (ack (getD bs 4 0)) (search tests))))
     case r (a-report h q) e =
-        let f-is : f ≡ Status (statusOf (dataOf bs)) = cc in
+        let f-is : f ≡ Status (statusIn bs) = cc in
         rw f-is (form-of-written bs h, written-of-form bs h)
     case r (neither h g q) e = ((λ _. cc), (λ _. cc))
 

@@ -5,12 +5,12 @@ use rules::COMMAND_MARK;
 use rules::LONGEST_PAYLOAD;
 use rules::PACKET_LENGTH;
 use rules::REPORT_COUNT;
-use rules::REPORT_LENGTH;
 use rules::SHORTEST_SENTENCE;
 use spe::ends_report;
 use spe::is_ack;
 use spe::is_command;
 use spe::is_status;
+use spe::report_length;
 use texts::text;
 ghost use mathlib.Core.Path.{_≡_};
 ghost use mathlib.Core.Bool.{false};
@@ -52,15 +52,13 @@ pub(crate) fn reply_length(s: &[u8]) -> usize
     if count != REPORT_COUNT {
         return 0;
     }
-    if s.len() < REPORT_LENGTH {
-        return 0;
-    }
     // nearly all that only begin as a report are turned away by its end
     if !ends_report(s) {
         return 0;
     }
-    if is_status(&s[..REPORT_LENGTH]) {
-        return REPORT_LENGTH;
+    let n = report_length(s);
+    if is_status(&s[..n]) {
+        return n;
     }
     0
 }

@@ -4,14 +4,14 @@ use mathlib.Core.Path.{_≡_}
 use mathlib.Core.List.{List, _++_}
 use lib.IntN.{ℤ, pos}
 use lib.ListN.{length, replicate}
-use Rattle.rules.specs.Answers.{kindOf, values}
+use Rattle.rules.specs.Answers.{kindOf, statusValues, values}
 use Rattle.rules.specs.declared.Kind.{Kind}
 use Rattle.rules.specs.declared.Frame.{Frame}
 use Rattle.records.specs.declared.told.Fields.{Fields}
 
--- There are 20 places, for the values of a status report.
+-- There are as many places as a status report has values.
 abbrev pub valuePlaces : ℕ
-valuePlaces = 20
+valuePlaces = statusValues
 
 -- the values in the places, from the first on, with zeros in the unused ones
 abbrev pub placed : List ℤ → List ℤ

@@ -1,4 +1,5 @@
 // A record's fields as numbers, in document 01's order: as they are written, laid as a row, and shown.
+use rules::STATUS_VALUES;
 use rules::Sentence02;
 use rules::Sentence03;
 use rules::Sentence05;
@@ -7,8 +8,8 @@ ghost use mathlib.Core.Path.{_≡_};
 ghost use Rattle.rules.specs.Sentences.{numbers02, numbers03};
 ghost use Rattle.rules.specs.Answers.{statusNumbers, numbers05};
 
-// The twenty of a status report: its nineteen fields, of which the seventh is an antenna and a letter.
-pub fn of_status(s: Status) -> [u32; 20]
+// Those of a status report: its nineteen fields, of which the seventh is an antenna and a letter, and its form.
+pub fn of_status(s: Status) -> [u32; STATUS_VALUES]
     ensures { λ r. ⌜ r ≡ statusNumbers s ⌝ }
 {
     [
@@ -32,6 +33,7 @@ pub fn of_status(s: Status) -> [u32; 20]
         s.combiner,
         s.warning as u32,
         s.alarm as u32,
+        s.comma as u32,
     ]
 }
 

@@ -6,6 +6,7 @@ use crate::fields::of_05;
 use crate::fields::of_status;
 use rules::Frame;
 use rules::Kind;
+use rules::STATUS_VALUES;
 use rules::Sentence03;
 ghost use mathlib.Core.Path.{_≡_};
 ghost use mathlib.Core.List.{[], map};
@@ -16,7 +17,7 @@ ghost use Rattle.rules.specs.declared.Frame.the-variants.{Apa03};
 ghost use Rattle.records.specs.Told.{valuePlaces, withValues, fieldsOf, FieldsTold};
 
 // How many values a frame has at most: those of a status report.
-pub const VALUE_PLACES: usize = 20;
+pub const VALUE_PLACES: usize = STATUS_VALUES;
 
 // The kind of a frame, how many values it has, and these at the front of the places, with zeros in the others.
 pub struct Fields {

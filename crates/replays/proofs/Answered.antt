@@ -1,5 +1,5 @@
 -- What the writer answered of a frame says which texts are to be shown: its bytes, or a dash. The room lent for them is
--- enough, since no frame is longer than 75 bytes.
+-- enough, since no writer's frame is longer than 76 bytes.
 -- Assumes nothing.
 use Prim.Native.Nat.{ℕ, _≤_}
 use mathlib.Core.Path.{_≡_}
@@ -17,15 +17,15 @@ use Rattle.rules.specs.declared.Frame.the-variants.{Ack, Status, Command, Apa02
 use Rattle.rules.specs.declared.Written.{Written}
 use Rattle.rules.specs.declared.Written.the-variants.{Length, Refused}
 use Rattle.frame_laws.proofs.Bytes.{answer}
-use Rattle.spe_writer.proofs.Report.{report-length}
+use Rattle.spe_writer.proofs.Report.{report-at-most}
 use Rattle.alpha_writer.proofs.Sentence.{length02, length03, length05}
 use Rattle.lines.specs.Lines.{hexTexts}
 use Rattle.replays.specs.Texts.{writtenTexts}
 
-pub longest : (f : Frame) → length (bytesOf f) ≤ 75
+pub longest : (f : Frame) → length (bytesOf f) ≤ 76
 unfolding bytesOf
 longest (Ack c) = omega arith
-longest (Status s) = omega (arith, report-length s)
+longest (Status s) = report-at-most s
 longest (Command c) = omega arith
 longest (Apa02 r) = omega (arith, length02 r)
 longest (Apa03 r) = omega (arith, length03 r)

@@ -43,12 +43,12 @@ module _ (forms : List ℕ) (values : List ℤ) (i : ℕ) where
   shown-all h = rw (drop-of-length-le values h) (none (drop i forms))
 
 -- there is a form for each value
-twenty : (k : Kind) → length (formsOf k) ≡ valuePlaces
+as-many : (k : Kind) → length (formsOf k) ≡ valuePlaces
 unfolding formsOf
-twenty (OfAck c) = refl
-twenty OfStatus = refl
-twenty (OfCommand c) = refl
-twenty (OfSentence n) = refl
+as-many (OfAck c) = refl
+as-many OfStatus = refl
+as-many (OfCommand c) = refl
+as-many (OfSentence n) = refl
 
 pub a-form-each : (f : Frame) → length (values f) ≤ length (formsOf (kindOf f))
-a-form-each f = rw (twenty (kindOf f)) (few-values f)
+a-form-each f = rw (as-many (kindOf f)) (few-values f)

@@ -5,8 +5,9 @@ use mathlib.Core.Bool.{cond}
 use mathlib.Core.List.{List, [], _∷_, _++_}
 use lib.Dec.{eqb}
 use lib.IntN.{ℤ, pos, negsuc, natAbs}
+use lib.ListN.{replicate}
 use Rattle.rules.specs.Bytes.{ascii}
-use Rattle.rules.specs.Answers.{kindOf, values, allowed, bytesOf}
+use Rattle.rules.specs.Answers.{kindOf, statusValues, values, allowed, bytesOf}
 use Rattle.rules.specs.declared.Kind.{Kind}
 use Rattle.rules.specs.declared.Kind.the-variants.{OfAck, OfStatus, OfCommand, OfSentence}
 use Rattle.rules.specs.declared.Frame.{Frame}
@@ -30,13 +31,13 @@ fieldTexts form v =
     (cond (eqb form (code "J")) ((letterOf v ∷ []) ∷ [])
     (signedTexts v)))
 
--- The forms of the fields of each kind, in their order: a status report has letters, and the tuner's is joined to the
--- antenna. All fields of the others are numbers.
+-- The forms of the values of each kind, in their order: a status report has letters, and the tuner's is joined to the
+-- antenna. All values of the others are numbers.
 unfoldable pub formsOf : Kind → List ℕ
-formsOf (OfAck c) = ascii "NNNNNNNNNNNNNNNNNNNN"
-formsOf OfStatus = ascii "KLLLNNNJNLNNNNNNNNLL"
-formsOf (OfCommand c) = ascii "NNNNNNNNNNNNNNNNNNNN"
-formsOf (OfSentence n) = ascii "NNNNNNNNNNNNNNNNNNNN"
+formsOf (OfAck c) = replicate statusValues (code "N")
+formsOf OfStatus = ascii "KLLLNNNJNLNNNNNNNNLLN"
+formsOf (OfCommand c) = replicate statusValues (code "N")
+formsOf (OfSentence n) = replicate statusValues (code "N")
 
 -- the values in these forms, one behind the other
 unfoldable pub shownTexts : List ℕ → List ℤ → List (List ℕ)

@@ -7,7 +7,7 @@ use lines::text;
 use listings::kind;
 use records::fields_of;
 use rules::Frame;
-use rules::REPORT_LENGTH;
+use rules::LONGEST_REPORT;
 use rules::Written;
 ghost use Rattle.lines.specs.Lines.{Types};
 ghost use Rattle.replays.specs.Texts.{writtenTexts, frameTexts};
@@ -16,7 +16,7 @@ ghost use Rattle.replays.specs.Texts.{writtenTexts, frameTexts};
 fn written(line: &mut [u8], at: usize, frame: Frame) -> usize
     ensures { λ r. ⌜ Types (writtenTexts frame) (now (line .entry)) at (now (line .exit)) r ⌝ }
 {
-    let mut out = [0u8; REPORT_LENGTH];
+    let mut out = [0u8; LONGEST_REPORT];
     let answer = row_writer::write_frame(frame, &mut out);
     let Written::Length(n) = answer else {
         return text(line, at, b"-");

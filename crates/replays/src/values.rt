@@ -33,6 +33,7 @@ const STATUS_FORMS: [u8; VALUE_PLACES] = [
     b'N',
     b'L',
     b'L',
+    b'N',
 ];
 
 // The forms of the fields of a kind of frame.

@@ -39,7 +39,7 @@ module _ (count : ℕ) (held others : List ℕ) (long : length held ≡ 133) whe
       let starts = still-begun (take count held) others (begun (take count held) (g .begun)) in
       record {
         few = record { a-family = family-1; low = omega (arith, g .short); behind = omega (arith, g .short) };
-        undecided = sym (waiting 1 bytes _ (begun-waits bytes starts few) refl);
+        undecided = sym (waiting 1 bytes _ (begun-waits bytes starts (omega (arith, few))) refl);
       }
 
   pub sentence-goes-on : SentenceGoesOn count held others → GoesOn 2 count held others

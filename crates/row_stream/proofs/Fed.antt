@@ -16,7 +16,7 @@ use Rattle.stream_rules.specs.declared.Answer.{Answer}
 use Rattle.stream_rules.specs.declared.Answer.the-variants.{Ready, More, Done, Refused}
 use Rattle.stream_laws.specs.Sessions.{isNoRefusal}
 use Rattle.stream_laws.proofs.States.{refused-as-before}
-use Rattle.rows.specs.Rows.{rowFed, Lays}
+use Rattle.rows.specs.Rows.{longestRow, rowFed, Lays}
 use Rattle.rows.proofs.Lengths.{row-fits, room}
 use Rattle.row_stream.specs.FedRows.{FeedsRow}
 
@@ -37,7 +37,7 @@ module _ (reader : Reader) (offered : List ℕ) (numbers : List ℤ) (f : Fed) (
   not-laid some after e = row-of after (e ∙ rw (ne-eqb result 0 some))
 
   -- where there is room for every row, so is the one that the call gives back: it was refused
-  pub as-it-was : (result ≡ 0 → ⊥) → 26 ≤ length numbers → f .reader ≡ reader
+  pub as-it-was : (result ≡ 0 → ⊥) → longestRow ≤ length numbers → f .reader ≡ reader
   as-it-was some long = by-answer (f .answer) refl
     where
       by-answer : (a : Answer) → f .answer ≡ a → f .reader ≡ reader

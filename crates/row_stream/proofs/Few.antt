@@ -25,7 +25,7 @@ use Rattle.search.specs.declared.Hit.{Hit}
 use Rattle.search.specs.declared.Sought.{Sought}
 use Rattle.search.specs.declared.Sought.the-variants.{Ready, Waiting}
 use Rattle.search.specs.declared.Stop.{Stop}
-use Rattle.rows.specs.Rows.{rowWithout, front}
+use Rattle.rows.specs.Rows.{longestRow, rowWithout, front}
 use Rattle.held_bytes.specs.Places.{readerAt, fedAt}
 use Rattle.held_bytes.specs.declared.moves.Moved.{Moved}
 use Rattle.held_bytes.specs.Moves.{callOn, Opens}
@@ -44,7 +44,7 @@ left-of p = p .reach - behind p
 
 module _ (family count at skipped : ℕ) (places few bytes : List ℕ) (numbers : List ℤ)
     (a-family : isFamily family ≡ true) (low : count < longest family) (held : count ≤ length places) (are : bytes ≡ take count places ++ few)
-    (room : 26 ≤ length numbers) where
+    (room : longestRow ≤ length numbers) where
   abbrev reader : Reader
   reader = readerAt family 0 count places at skipped
 

@@ -23,7 +23,7 @@ use Rattle.stream_laws.proofs.States.{open-call}
 use Rattle.stream_laws.proofs.Families.{facts}
 use Rattle.stream_laws.proofs.Starts.{look-at-good}
 use Rattle.stream_laws.proofs.Jump.{jump}
-use Rattle.rows.specs.Rows.{row, front}
+use Rattle.rows.specs.Rows.{longestRow, row, front}
 use Rattle.held_bytes.specs.Places.{readerAt}
 use Rattle.row_stream.specs.FedRows.{FeedsRow}
 use Rattle.row_stream.specs.Short.{FrontRow}
@@ -51,7 +51,7 @@ module _ (family at skipped : ℕ) (held offered : List ℕ) (n : ℕ) (f : Fram
       jump family [] offered 0 n f _ looks n (omega (arith, settled-by)) .answer
       ∙ (λ i. gives (sub-zero n i) 0 n f (none-kept i))
 
-  front-row : (numbers after : List ℤ) → 26 ≤ length numbers → after ≡ front (row n (wrap (at + 0)) (wrap (skipped + 0)) n f) numbers
+  front-row : (numbers after : List ℤ) → longestRow ≤ length numbers → after ≡ front (row n (wrap (at + 0)) (wrap (skipped + 0)) n f) numbers
       → FeedsRow reader offered numbers 0 (readerAt family 0 0 (filled []) (wrap (at + n)) 0) after
   front-row numbers after room stands =
       with-frame reader offered numbers after room _
@@ -70,7 +70,7 @@ nothing-there family at skipped offered held numbers = record {
 
 -- a frame of n bytes: the places are clear, and its row stands there
 pub frame-there : (family at skipped : ℕ) (held offered : List ℕ) (n : ℕ) (f : Frame) → isFamily family ≡ true → n ≤ length offered → readOne family (take n offered) ≡ Good f
-    → (n ≡ 0 → ⊥) → (numbers after : List ℤ) (places : List ℕ) → 26 ≤ length numbers → at < 2 ^ 32 → skipped < 2 ^ 32
+    → (n ≡ 0 → ⊥) → (numbers after : List ℤ) (places : List ℕ) → longestRow ≤ length numbers → at < 2 ^ 32 → skipped < 2 ^ 32
     → after ≡ front (row n at skipped n f) numbers → places ≡ filled []
     → FrontRow family at skipped offered held numbers n places after
 frame-there family at skipped held offered n f a-family there read some numbers after places room low less stands clear =

@@ -10,12 +10,12 @@ use Rattle.stream_rules.specs.Streams.{fed}
 use Rattle.stream_rules.specs.declared.Reader.{Reader}
 use Rattle.stream_rules.specs.declared.Ready.{Ready as HandedOut}
 use Rattle.stream_rules.specs.declared.Answer.the-variants.{Ready, More}
-use Rattle.rows.specs.Rows.{row, rowWithout, front}
+use Rattle.rows.specs.Rows.{longestRow, row, rowWithout, front}
 use Rattle.rows.proofs.Lengths.{row-fits}
 use Rattle.rows.proofs.Outcomes.{at-the-front, lays}
 use Rattle.row_stream.specs.FedRows.{FeedsRow}
 
-module _ (reader : Reader) (offered : List ℕ) (numbers after : List ℤ) (room : 26 ≤ length numbers) (r : Reader) where
+module _ (reader : Reader) (offered : List ℕ) (numbers after : List ℤ) (room : longestRow ≤ length numbers) (r : Reader) where
   pub with-frame : (h : HandedOut) → fed reader offered ≡ record { reader = r; answer = Ready h }
       → after ≡ front (row (h .taken) (h .start) (h .skipped) (h .length) (h .frame)) numbers → FeedsRow reader offered numbers 0 r after
   with-frame h e stands = record {

@@ -20,7 +20,7 @@ pub struct Counts {
 }
 
 // Any call, by its answer. Where it is refused, or the row has no room, all is as it was. (Every row has room
-// in 26 places; only with fewer are the held places kept, to be put back.)
+// in 27 places; only with fewer are the held places kept, to be put back.)
 pub(crate) fn feed_any(
     family: u8,
     closed: u8,

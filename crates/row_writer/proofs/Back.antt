@@ -10,7 +10,7 @@ use lib.Dec.{eqb, leb}
 use lib.IntN.{ℤ, pos, negsuc, natAbs}
 use lib.ListN.{getD}
 use Rattle.rules.specs.Bytes.{ascii, oneOf, every}
-use Rattle.rules.specs.Status.{by, statusInRange, warnings, alarms}
+use Rattle.rules.specs.Status.{by, fieldsInRange, statusInRange, warnings, alarms}
 use Rattle.rules.specs.Sentences.{fit, numbers02, inRange02, numbers03, inRange03, inRange05}
 use Rattle.rules.specs.Answers.{numbers05, kindOf, values, allowed}
 use Rattle.rules.specs.declared.Status as StatusType
@@ -152,7 +152,7 @@ module _ (r : Sentence05) (e : inRange05 r ≡ true) where
   unfolding frameGiven sentenceGiven
   back05 = rw row05 (ap (λ x. AFrame (Apa05 x)) record05)
 
--- The status report: ten bytes, eight words, two bytes. Its letters are bytes.
+-- The status report: ten bytes, eight words, three bytes. Its letters are bytes, and so is its form.
 letter : (cs : List ℕ) (b : ℕ) → every (λ c. leb c 255) cs ≡ true → oneOf cs b ≡ true → b ≤ 255
 letter cs b small e = leb-true b 255 (one-of-these (λ c. leb c 255) cs b small e)
 
@@ -168,11 +168,11 @@ abbrev readings : StatusType.Status → List ℕ
 readings s = s .watts ∷ s .swratu ∷ s .swrant ∷ s .volts ∷ s .amperes ∷ s .upper ∷ s .lower ∷ s .combiner ∷ []
 
 abbrev signs : StatusType.Status → List ℕ
-signs s = s .warning ∷ s .alarm ∷ []
+signs s = s .warning ∷ s .alarm ∷ s .comma ∷ []
 
 module _ (s : StatusType.Status) (e : statusInRange s ≡ true) where
   settings-bytes : AllBytes (settings s)
-  unfolding statusInRange every
+  unfolding statusInRange fieldsInRange every
   settings-bytes =
       let f = fits s e in
       let state = letter (ascii "SO") (s .state) refl (search tests depth 25) in
@@ -186,8 +186,9 @@ module _ (s : StatusType.Status) (e : statusInRange s ≡ true) where
   readings-words = let f = fits s e in omega arith
 
   signs-bytes : AllBytes (signs s)
-  unfolding statusInRange every
+  unfolding statusInRange fieldsInRange every
   signs-bytes =
+      let f = fits s e in
       let warning = letter warnings (s .warning) refl (search tests depth 25) in
       let alarm = letter alarms (s .alarm) refl (search tests depth 25) in
       omega arith
@@ -226,6 +227,7 @@ module _ (s : StatusType.Status) (e : statusInRange s ≡ true) where
         combiner = b 7 i;
         warning = c 0 i;
         alarm = c 1 i;
+        comma = c 2 i;
       }
 
   back-status : frameGiven 2 0 (values (Status s)) ≡ AFrame (Status s)

@@ -8,7 +8,7 @@ use lib.Dec.{eqb, leb}
 use lib.IntN.{ℤ, pos, negsuc, natAbs}
 use lib.ListN.{length, take, drop, getD}
 use Rattle.rules.specs.Bytes.{every}
-use Rattle.rules.specs.Answers.{saidToWrite, written, outputAfter, noRecord, kindOf, allowed, notAllowed, bytesOf}
+use Rattle.rules.specs.Answers.{saidToWrite, written, outputAfter, noRecord, kindOf, allowed, notAllowed, bytesOf, statusValues}
 use Rattle.rules.specs.declared.Status as StatusType
 use Rattle.rules.specs.declared.Sentence02.{Sentence02}
 use Rattle.rules.specs.declared.Sentence03.{Sentence03}
@@ -55,7 +55,7 @@ valueAt vs i = getD vs i (pos 0)
 
 -- Whether a row is long enough and its values fit the fields of a record. What stands behind those is not looked at.
 unfoldable pub isStatusRow : List ℤ → Bool
-isStatusRow vs = leb 20 (length vs) && every aByte (take 10 vs) && every aWord (take 8 (drop 10 vs)) && every aByte (take 2 (drop 18 vs))
+isStatusRow vs = leb statusValues (length vs) && every aByte (take 10 vs) && every aWord (take 8 (drop 10 vs)) && every aByte (take 3 (drop 18 vs))
 
 unfoldable pub isRow02 : List ℤ → Bool
 isRow02 vs = leb 13 (length vs) && every aWord (take 13 vs)
@@ -89,6 +89,7 @@ statusFrom vs = record {
   combiner = wordOf (valueAt vs 17);
   warning = byteOf (valueAt vs 18);
   alarm = byteOf (valueAt vs 19);
+  comma = byteOf (valueAt vs 20);
 }
 
 unfoldable pub from02 : List ℤ → Sentence02

@@ -8,6 +8,7 @@ use crate::fits::temperature_at;
 use crate::fits::value_at;
 use crate::fits::word_at;
 use rules::Frame;
+use rules::STATUS_VALUES;
 use rules::Sentence02;
 use rules::Sentence03;
 use rules::Sentence05;
@@ -21,14 +22,14 @@ pub enum Given {
     Nothing,
 }
 
-// Ten bytes, eight words, two bytes.
+// Ten bytes, eight words, three bytes.
 pub(crate) fn is_status_row(values: &[i64]) -> bool
     ensures { λ r. ⌜ r ≡ isStatusRow (now (values .entry)) ⌝ }
 {
-    if values.len() < 20 {
+    if values.len() < STATUS_VALUES {
         return false;
     }
-    fit(&values[..10], BYTE) & fit(&values[10..18], WORD) & fit(&values[18..20], BYTE)
+    fit(&values[..10], BYTE) & fit(&values[10..18], WORD) & fit(&values[18..STATUS_VALUES], BYTE)
 }
 
 pub(crate) fn is_row02(values: &[i64]) -> bool
@@ -82,6 +83,7 @@ pub(crate) fn status_from(values: &[i64]) -> Status
         combiner: word_at(values, 17),
         warning: byte_at(values, 18),
         alarm: byte_at(values, 19),
+        comma: byte_at(values, 20),
     }
 }
 

@@ -1,4 +1,4 @@
--- How long a row is: no frame's row is longer than that of a status report, 26 numbers; so where that many are lent,
+-- How long a row is: no frame's row is longer than that of a status report, 27 numbers; so where that many are lent,
 -- every row has room.
 -- Assumes nothing.
 use Prim.Native.Nat.{ℕ, _≤_}
@@ -18,5 +18,5 @@ row-fits taken start skipped n f =
     omega (arith, length-append (heading (kindRow (kindOf f)) (codeOf (kindOf f)) taken start skipped n) (values f), few-values f)
 
 -- with so many numbers lent, only a refusal has another number than 0
-pub room : (r numbers : List ℤ) → length r ≤ 26 → 26 ≤ length numbers → rowNumber r numbers ≡ 0
+pub room : (r numbers : List ℤ) → length r ≤ longestRow → longestRow ≤ length numbers → rowNumber r numbers ≡ 0
 room r numbers short long = rw (le-leb (length r) (length numbers) (omega (arith, short, long)))

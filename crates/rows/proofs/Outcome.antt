@@ -14,7 +14,7 @@ use Rattle.rules.specs.declared.Frame.{Frame}
 use Rattle.rules.specs.declared.Reading.{Reading}
 use Rattle.rules.specs.declared.Reading.the-variants.{Good, Refused}
 use Rattle.frame_laws.proofs.Saying.{reads}
-use Rattle.rows.specs.Rows.{row, front, refusalOf}
+use Rattle.rows.specs.Rows.{longestRow, row, front, refusalOf}
 use Rattle.rows.proofs.Lengths.{row-fits, room}
 use Rattle.rows.specs.ReadRows.{ReadsRowAt}
 
@@ -44,7 +44,7 @@ module _ (family : ℕ) (bytes : List ℕ) (taken start skipped : ℕ) (numbers 
       }
       by-reading (Refused n) is = absurd (refused-some family bytes n is (sym (rw is at (e .answers)) ∙ zero))
 
-  pub was-none : (result ≡ 0 → ⊥) → 26 ≤ length numbers → ((f : Frame) → readOne family bytes ≡ Good f → ⊥) × (after ≡ numbers)
+  pub was-none : (result ≡ 0 → ⊥) → longestRow ≤ length numbers → ((f : Frame) → readOne family bytes ≡ Good f → ⊥) × (after ≡ numbers)
   was-none some long = (
     (λ f is. some (rw is at (e .answers) ∙ room (row taken start skipped (length bytes) f) numbers (row-fits taken start skipped (length bytes) f) long)),
     e .content ∙ rw (ne-eqb result 0 some),

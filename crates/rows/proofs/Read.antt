@@ -7,7 +7,7 @@ use mathlib.Core.List.{List}
 use mathlib.Core.Logic.{⊎-elim}
 use lib.ListN.{getD}
 use Rattle.rules.specs.Codes.{isAck, isCommand}
-use Rattle.rules.specs.Status.{isStatus, statusOf, dataOf}
+use Rattle.rules.specs.Status.{isStatus, statusIn}
 use Rattle.rules.specs.Answers.{readOne, readFamily1, readFamily3, notGood, statusNumbers}
 use Rattle.rules.specs.declared.Frame.the-variants.{Ack, Status, Command}
 use Rattle.rules.specs.declared.Reading.the-variants.{Good, Refused}
@@ -20,7 +20,7 @@ module _ (bs : List ℕ) where
   unfolding readOne readFamily1
   an-ack e = rw e
 
-  pub a-report : isAck bs ≡ false → isStatus bs ≡ true → readOne 1 bs ≡ Good (Status (statusOf (dataOf bs)))
+  pub a-report : isAck bs ≡ false → isStatus bs ≡ true → readOne 1 bs ≡ Good (Status (statusIn bs))
   unfolding readOne readFamily1
   a-report e d = rw (e, d)
 
@@ -37,7 +37,7 @@ module _ (bs : List ℕ) where
   no-command e = rw e
 
   -- what the numbers of a report tell
-  with-numbers : (r : ReportNumbers) → r ≡ numbersIn bs → isStatus bs ≡ true → (r .good ≡ true) × (r .numbers ≡ statusNumbers (statusOf (dataOf bs)))
+  with-numbers : (r : ReportNumbers) → r ≡ numbersIn bs → isStatus bs ≡ true → (r .good ≡ true) × (r .numbers ≡ statusNumbers (statusIn bs))
   unfolding numbersIn
   with-numbers r e d = (ap (λ (x : ReportNumbers). x .good) e ∙ rw d, ap (λ (x : ReportNumbers). x .numbers) e ∙ rw d)
 
@@ -45,7 +45,7 @@ module _ (bs : List ℕ) where
   unfolding numbersIn
   without r e d = ap (λ (x : ReportNumbers). x .good) e ∙ rw d
 
-  pub told-good : (r : ReportNumbers) → r ≡ numbersIn bs → r .good ≡ true → (isStatus bs ≡ true) × (r .numbers ≡ statusNumbers (statusOf (dataOf bs)))
+  pub told-good : (r : ReportNumbers) → r ≡ numbersIn bs → r .good ≡ true → (isStatus bs ≡ true) × (r .numbers ≡ statusNumbers (statusIn bs))
   told-good r e good =
       ⊎-elim
       (λ (d : isStatus bs ≡ true). (d, with-numbers r e d .1))

@@ -9,7 +9,7 @@ use lib.IntN.{ℤ, pos}
 use denote.Ref.{RefT, now}
 use denote.Triple.Both.{Both}
 use lib.ListN.{length, take, drop}
-use Rattle.rules.specs.Answers.{Says, no, yes, noRoom, kindOf, values}
+use Rattle.rules.specs.Answers.{Says, no, yes, noRoom, kindOf, statusValues, values}
 use Rattle.rules.specs.declared.Frame.{Frame}
 use Rattle.rules.specs.declared.Kind.{Kind}
 use Rattle.rules.specs.declared.Kind.the-variants.{OfAck, OfStatus, OfCommand, OfSentence}
@@ -42,7 +42,7 @@ abbrev pub headingLength : ℕ
 headingLength = 6
 
 abbrev pub longestRow : ℕ
-longestRow = 26
+longestRow = headingLength + statusValues
 
 abbrev pub kindRow : Kind → ℕ
 kindRow (OfAck c) = ackRow

@@ -5,6 +5,7 @@ use rules::Frame;
 use rules::Kind;
 use rules::NO_ROOM;
 use rules::Reading;
+use rules::STATUS_VALUES;
 use stream_rules::Answer;
 ghost use mathlib.Core.Path.{_≡_};
 ghost use mathlib.Core.List.{_++_, map};
@@ -31,7 +32,7 @@ pub const DONE_ROW: u32 = 6;
 // How many numbers stand before a frame's values, and how many the longest row has: that of a status report.
 pub const HEADING_LENGTH: usize = 6;
 
-pub const LONGEST_ROW: usize = 26;
+pub const LONGEST_ROW: usize = HEADING_LENGTH + STATUS_VALUES;
 
 // The refusal of a row that has no room.
 const HAS_NO_ROOM: u32 = NO_ROOM as u32;

@@ -8,7 +8,7 @@ use lib.IntN.{ℤ, pos}
 use lib.ListN.{length, drop, getD}
 use Rattle.rules.specs.Bytes.{oneOf}
 use Rattle.rules.specs.Codes.{isCode, isAckCode, isAck, isCommand, ack, command}
-use Rattle.rules.specs.Status.{isStatus, statusOf, dataOf, statusInRange, statusBytes}
+use Rattle.rules.specs.Status.{isStatus, statusIn, statusInRange, statusBytes}
 use Rattle.rules.specs.Sentences.{isSentence, payloadOf, numberOf, textsOf, is02, is03, is05, sentence02, sentence03, sentence05, inRange02, inRange03, inRange05, numbers02, numbers03, bytes02, bytes03, bytes05}
 use Rattle.rules.specs.declared.Status as StatusType
 use Rattle.rules.specs.declared.Sentence05.{Sentence05}
@@ -73,12 +73,17 @@ kindOf (Apa03 r) = OfSentence 3
 kindOf (Apa05 r) = OfSentence 5
 kindOf (Other n) = OfSentence n
 
--- The values of a frame, in the order of document 01: of a status report its fields, of a sentence with a record its
--- numbers; the others have none.
+-- The values of a frame, in the order of document 01: of a status report its fields and, last, its form; of a sentence with
+-- a record its numbers; the others have none.
 abbrev pub statusNumbers : StatusType.Status → List ℕ
 statusNumbers s =
     s .id ∷ s .state ∷ s .direction ∷ s .bank ∷ s .input ∷ s .band ∷ s .transmit ∷ s .tuner ∷ s .receive ∷ s .level
-    ∷ s .watts ∷ s .swratu ∷ s .swrant ∷ s .volts ∷ s .amperes ∷ s .upper ∷ s .lower ∷ s .combiner ∷ s .warning ∷ s .alarm ∷ []
+    ∷ s .watts ∷ s .swratu ∷ s .swrant ∷ s .volts ∷ s .amperes ∷ s .upper ∷ s .lower ∷ s .combiner ∷ s .warning ∷ s .alarm
+    ∷ s .comma ∷ []
+
+-- so many are they
+abbrev pub statusValues : ℕ
+statusValues = 21
 
 abbrev pub numbers05 : Sentence05 → List ℕ
 numbers05 r =
@@ -111,7 +116,7 @@ saidToWrite (NotWritten n) = no n
 unfoldable pub readFamily1 : List ℕ → Reading
 readFamily1 bs =
     cond (isAck bs) (Good (Ack (getD bs 4 0)))
-    (cond (isStatus bs) (Good (Status (statusOf (dataOf bs))))
+    (cond (isStatus bs) (Good (Status (statusIn bs)))
     (Refused notGood))
 
 -- Family 2 is a sentence. One numbered 02, 03 or 05 that breaks its field rules is not good; one with another number is

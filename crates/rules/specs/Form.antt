@@ -28,7 +28,8 @@ unfoldable pub spacesInFront : List ℕ → Bool
 spacesInFront [] = false
 spacesInFront (b ∷ bs) = cond (eqb b (code " ")) (spacesInFront bs) (noLeadingZero (b ∷ bs))
 
--- Field 10 is padded with zeros, fields 11 to 17 with spaces; a zero may stand before a point.
+-- Field 10 is padded with zeros, fields 11 to 17 with spaces; a zero may stand before a point. A report is written with its
+-- comma or without it as it was read, so either is in the writer's form.
 unfoldable pub statusForm : List ℕ → Bool
 statusForm d =
     zerosInFront (field 10 d)

@@ -9,16 +9,34 @@ use Rattle.rules.specs.Bytes.{ascii, oneOf, between, every, same, first,
 use Rattle.rules.specs.Numbers.{isDigit, decimal, padded, paddedNumber, pointed, pointedNumber, withZeros, withSpaces, withPoint}
 use Rattle.rules.specs.declared.Status.{Status}
 
--- A report has 75 bytes, of which 67 are its data.
+-- A report has 75 bytes, of which 67 are its data; with a comma before its line end it has 76.
 abbrev pub reportLength : ℕ
 reportLength = 75
+
+abbrev pub longestReport : ℕ
+longestReport = 76
 
 abbrev pub dataLength : ℕ
 dataLength = 67
 
--- AA AA AA 43, the data, its sum modulo 256, its sum divided by 256, 0D 0A
-unfoldable pub statusFrame : List ℕ → List ℕ
-statusFrame data₁ = 0xAA ∷ 0xAA ∷ 0xAA ∷ 0x43 ∷ data₁ ++ total data₁ % 256 ∷ total data₁ / 256 ∷ 0x0D ∷ 0x0A ∷ []
+-- The two forms are told apart by the byte behind the checksum alone: 1 where a comma stands there, else 0.
+abbrev pub behindChecksum : ℕ
+behindChecksum = 73
+
+unfoldable pub commaIn : List ℕ → ℕ
+commaIn bs = cond (eqb (getD bs behindChecksum 0) (code ",")) 1 0
+
+-- so many bytes has a report that starts with these
+abbrev pub reportLengthIn : List ℕ → ℕ
+reportLengthIn bs = reportLength + commaIn bs
+
+-- what stands behind the checksum: 0D 0A, or a comma and 0D 0A
+abbrev pub lineEnd : ℕ → List ℕ
+lineEnd comma = cond (eqb comma 1) (code "," ∷ 0x0D ∷ 0x0A ∷ []) (0x0D ∷ 0x0A ∷ [])
+
+-- AA AA AA 43, the data, its sum modulo 256, its sum divided by 256, and the line end
+unfoldable pub statusFrame : ℕ → List ℕ → List ℕ
+statusFrame comma data₁ = 0xAA ∷ 0xAA ∷ 0xAA ∷ 0x43 ∷ data₁ ++ total data₁ % 256 ∷ total data₁ / 256 ∷ lineEnd comma
 
 -- The data is a comma, then the fields with a comma between each two, then a comma.
 unfoldable pub joined : List (List ℕ) → List ℕ
@@ -58,9 +76,9 @@ metersReadable d =
 unfoldable pub readable : List ℕ → Bool
 readable d = frontReadable d && metersReadable d
 
--- the values of the fields
-unfoldable pub statusOf : List ℕ → Status
-statusOf d = record {
+-- the values of the fields, in a report of that form
+unfoldable pub statusOf : ℕ → List ℕ → Status
+statusOf comma d = record {
   id = decimal (take 2 (field 1 d));
   state = first (field 2 d);
   direction = first (field 3 d);
@@ -81,6 +99,7 @@ statusOf d = record {
   combiner = paddedNumber (field 17 d);
   warning = first (field 18 d);
   alarm = first (field 19 d);
+  comma = comma;
 }
 
 -- What depends on the ID: the bank is x exactly for 20K; the bands go to 10 or to 11; the antennas to 6 or to 4; the
@@ -96,8 +115,8 @@ abbrev pub alarms : List ℕ
 alarms = ascii "SADHCN"
 
 -- The rules of the fields, in their order.
-unfoldable pub statusInRange : Status → Bool
-statusInRange s =
+unfoldable pub fieldsInRange : Status → Bool
+fieldsInRange s =
     oneOf (20 ∷ 13 ∷ []) (s .id)
     && oneOf (ascii "SO") (s .state)
     && oneOf (ascii "RT") (s .direction)
@@ -114,17 +133,24 @@ statusInRange s =
     && oneOf warnings (s .warning)
     && oneOf alarms (s .alarm)
 
--- the data of a report
+-- Their values, and one of the two forms.
+unfoldable pub statusInRange : Status → Bool
+statusInRange s = fieldsInRange s && leb (s .comma) 1
+
+-- the data of a report, and its record
 abbrev pub dataOf : List ℕ → List ℕ
 dataOf bs = part 4 dataLength bs
+
+abbrev pub statusIn : List ℕ → Status
+statusIn bs = statusOf (commaIn bs) (dataOf bs)
 
 -- The bytes are, as a whole, a good status report.
 unfoldable pub isStatus : List ℕ → Bool
 isStatus bs =
-    same bs (statusFrame (dataOf bs))
+    same bs (statusFrame (commaIn bs) (dataOf bs))
     && same (dataOf bs) (joined (cut 0 widths (dataOf bs)))
     && readable (dataOf bs)
-    && statusInRange (statusOf (dataOf bs))
+    && statusInRange (statusIn bs)
 
 -- The writer pads field 10 with zeros, and fields 11 to 17 with spaces.
 unfoldable pub statusTexts : Status → List (List ℕ)
@@ -150,5 +176,6 @@ statusTexts s =
     ∷ (s .alarm ∷ [])
     ∷ []
 
+-- It puts the comma where the record has it.
 abbrev pub statusBytes : Status → List ℕ
-statusBytes s = statusFrame (joined (statusTexts s))
+statusBytes s = statusFrame (s .comma) (joined (statusTexts s))

@@ -36,10 +36,13 @@ pub const CODE_COUNT: u8 = 0x01;
 
 pub const REPORT_COUNT: u8 = 0x43;
 
-// how many bytes a packet with a code has, a report, and the data in it
+// how many bytes a packet with a code has, a report without a comma before its line end and one with it, and the data
+// in both
 pub const PACKET_LENGTH: usize = 6;
 
 pub const REPORT_LENGTH: usize = 75;
+
+pub const LONGEST_REPORT: usize = REPORT_LENGTH + 1;
 
 pub const DATA_LENGTH: usize = 67;
 
@@ -50,11 +53,14 @@ pub const SHORTEST_SENTENCE: usize = 11;
 
 pub const LONGEST_SENTENCE: usize = 134;
 
+// How many values a status report has: those of its fields, of which 7 holds two, and its form.
+pub const STATUS_VALUES: usize = 21;
+
 // No frame of any family has fewer bytes: the shortest is an SPE packet with a code.
 pub const SHORTEST_FRAME: usize = PACKET_LENGTH;
 
-// A status report of an SPE amplifier: fields 1 to 19 of document 01, of which 7 holds two. Letters
-// are kept as their ASCII bytes.
+// A status report of an SPE amplifier: fields 1 to 19 of document 01, of which 7 holds two, and which of its two forms it
+// has. Letters are kept as their ASCII bytes.
 pub struct Status {
     // 20 for 20K, 13 for 13K
     pub id: u8,
@@ -89,6 +95,8 @@ pub struct Status {
     pub combiner: u32,
     pub warning: u8,
     pub alarm: u8,
+    // 1 where a comma stands between the checksum and the line end, else 0
+    pub comma: u8,
 }
 
 // Sentence 02 of the Alpha 9500, by the names of its format line in source document 001.

@@ -13,7 +13,7 @@ use lib.Dec.{eqb}
 use lib.ListN.{length, drop, getD, length-drop}
 use lib.Seq.{getD-drop}
 use Rattle.rules.specs.Sentences.{isPayloadByte}
-use Rattle.stream_rules.specs.Heads.{isSpe, markOf, needs, payloadRun, bad, head}
+use Rattle.stream_rules.specs.Heads.{isSpe, markOf, countOf, needs, payloadRun, bad, head}
 use Rattle.stream_laws.specs.Settled.{settled}
 use Rattle.stream_laws.proofs.PacketStarts.{needs-none, Marks, no-marks, one-more, no-mark, no-count}
 use Rattle.stream_laws.proofs.Runs.{run, run-within}
@@ -34,9 +34,9 @@ mark-not family k not-55 not-aa = by (eqb family 3)
     by true = not-55
     by false = not-aa
 
-mark-needs-none : (family count : ℕ) → count ≡ markOf family → needs family count ≡ 0
-mark-needs-none family count mark =
-    needs-none family count
+mark-needs-none : (family : ℕ) (bs : List ℕ) → countOf bs ≡ markOf family → needs family bs ≡ 0
+mark-needs-none family bs mark =
+    needs-none family bs
     (λ p. mark-not family 0x01 (λ q. omega (arith, q)) (λ q. omega (arith, q)) (sym mark ∙ p))
     (λ one p. mark-not family 0x43 (λ q. omega (arith, q)) (λ q. omega (arith, q)) (sym mark ∙ p))
 
@@ -61,7 +61,7 @@ module _ (family : ℕ) (spe : isSpe family ≡ true) (bs : List ℕ) where
   pub mark-is-no-count : 4 ≤ length bs → getD bs 3 0 ≡ markOf family → BadBy family bs 4
   mark-is-no-count there mark =
       with-marks 3 4 (omega arith) (omega arith) (omega arith)
-      (λ marks. let h = no-count family spe bs there marks (mark-needs-none family (getD bs 3 0) mark) in (h .0, omega (arith, h .1)))
+      (λ marks. let h = no-count family spe bs there marks (mark-needs-none family bs mark) in (h .0, omega (arith, h .1)))
 
 -- A start at another byte than a mark, within some bytes.
 pub unmarked : (family : ℕ) (spe : isSpe family ≡ true) (bs : List ℕ) (at : ℕ) → at < length bs → (getD bs at 0 ≡ markOf family → ⊥) → BadBy family (drop at bs) 1

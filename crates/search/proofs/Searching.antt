@@ -7,13 +7,14 @@ use mathlib.Core.List.{List}
 use native.Mathlib.Decide.{decLt, ℕ-discrete}
 use native.Mathlib.Omega.{arith}
 use lib.ListN.{length, take, drop}
+use Rattle.rules.specs.Status.{reportLengthIn}
 use Rattle.rules.specs.Answers.{readOne}
 use Rattle.rules.specs.declared.Frame.{Frame}
-use Rattle.stream_rules.specs.Heads.{bad, good, headOf, head}
+use Rattle.stream_rules.specs.Heads.{needs, bad, good, headOf, head}
 use Rattle.stream_rules.specs.Rule.{Look, byLook}
 use Rattle.stream_laws.specs.Settled.{reach}
 use Rattle.stream_laws.proofs.Heads.{shortest-of-all, GoodHead, good-head}
-use Rattle.stream_laws.proofs.PacketStarts.{Marks, bytes-missing, all-there}
+use Rattle.stream_laws.proofs.PacketStarts.{needs-report, Marks, bytes-missing, all-there}
 use Rattle.spe.proofs.Beginning.{Begun}
 use Rattle.stream_laws.proofs.Families.{facts}
 use Rattle.stream_laws.proofs.Starts.{BadBefore, look-at-good, look-at-wait, look-at-end}
@@ -86,9 +87,13 @@ module _ (bs : List ℕ) (b : Begun bs) where
         ]
       ]
 
-  pub begun-waits : length bs < 75 → Stops 1 bs 0 0 (record { at = 0; length = 0; reach = 0 })
-  begun-waits few = stops-waiting 1 bs 0 0 0 0 (begins 1 bs 0 0) (bytes-missing 1 refl bs (b .there) marks 75 (rw (b .count)) few)
+  needed : needs 1 bs ≡ reportLengthIn bs
+  needed = needs-report 1 bs refl (b .count)
 
-  pub begun-whole : 75 ≤ length bs → Stops 1 bs 0 0 (record { at = 0; length = 75; reach = 0 })
+  pub begun-waits : length bs < reportLengthIn bs → Stops 1 bs 0 0 (record { at = 0; length = 0; reach = 0 })
+  begun-waits few = stops-waiting 1 bs 0 0 0 0 (begins 1 bs 0 0) (bytes-missing 1 refl bs (b .there) marks (reportLengthIn bs) needed few)
+
+  pub begun-whole : reportLengthIn bs ≤ length bs → Stops 1 bs 0 0 (record { at = 0; length = reportLengthIn bs; reach = 0 })
   begun-whole enough =
-      stops-to-read 1 bs 0 0 0 0 75 (begins 1 bs 0 0) (all-there 1 refl bs (b .there) marks 75 (rw (b .count)) (omega arith) enough)
+      stops-to-read 1 bs 0 0 0 0 (reportLengthIn bs) (begins 1 bs 0 0)
+      (all-there 1 refl bs (b .there) marks (reportLengthIn bs) needed (omega arith) enough)

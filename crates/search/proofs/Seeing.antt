@@ -111,7 +111,7 @@ module _ (family : ℕ) (spe : isSpe family ≡ true) (bs : List ℕ) where
   pub few : (k : ℕ) → length bs ≡ k → k < 4 → Marks family k bs → Undecided ≡ seen family bs
   few k e h m = undecided family bs (few-marks family spe bs (omega arith) (subst⁻¹ (λ (n : ℕ). Marks family n bs) e m))
 
-  pub counted : lengthAt family bs ≡ needs family (getD bs 3 0)
+  pub counted : lengthAt family bs ≡ needs family bs
   counted = rw spe
 
   pub whole-length : (n : ℕ) → 0 < n → seen family bs ≡ Whole n → packetLength ≤ n
@@ -119,12 +119,12 @@ module _ (family : ℕ) (spe : isSpe family ≡ true) (bs : List ℕ) where
   whole-length n some e =
       let declared = lengthAt family bs in
       let is : declared ≡ n = is-whole (waits family bs) (eqb (settled family bs) declared) declared (settled family bs) n e .1 .1 in
-      omega (arith, is, counted, needs-six family (getD bs 3 0) (omega (arith, is, counted, some)))
+      omega (arith, is, counted, needs-six family bs (omega (arith, is, counted, some)))
 
   pub bad-packet : (d : ℕ) → 0 < d → d < 6 → (head family bs ≡ bad) × (settled family bs ≡ d) → Bad d ≡ seen family bs
   bad-packet d some low e =
       bad-start family bs d e
-      (λ same. let is : d ≡ needs family (getD bs 3 0) = same ∙ counted in omega (arith, needs-six family (getD bs 3 0) (omega (arith, is, some)), is, low))
+      (λ same. let is : d ≡ needs family bs = same ∙ counted in omega (arith, needs-six family bs (omega (arith, is, some)), is, low))
 
   -- A start that is seen to be bad was settled by four bytes or fewer: by a byte that is no mark, or by its count.
   settled-is : settled family bs ≡ spe-settled family bs
@@ -142,10 +142,10 @@ module _ (family : ℕ) (spe : isSpe family ≡ true) (bs : List ℕ) where
   unfolding seen spe-settled
   bad-soon d e =
       let h = is-bad (waits family bs) (eqb (settled family bs) (lengthAt family bs)) (lengthAt family bs) (settled family bs) d e in
-      let other : spe-settled family bs ≡ needs family (getD bs 3 0) → ⊥ =
+      let other : spe-settled family bs ≡ needs family bs → ⊥ =
       λ same. eqb-false (settled family bs) (lengthAt family bs) (h .1 .0) (settled-is ∙ same ∙ sym counted) in
       let mark : ℕ → Bool = λ k. not (eqb (markOf family) (getD bs k 0)) in
-      omega (arith, at-most-four (mark 0) (mark 1) (mark 2) (eqb (needs family (getD bs 3 0)) 0) (needs family (getD bs 3 0)) other, settled-is, h .1 .1)
+      omega (arith, at-most-four (mark 0) (mark 1) (mark 2) (eqb (needs family bs) 0) (needs family bs) other, settled-is, h .1 .1)
 
 -- A `$` that is seen to be a bad start was settled by the byte behind its payload bytes, or by one of them.
 pub bad-behind : (bs : List ℕ) → getD bs 0 0 ≡ code "$" → (d : ℕ) → seen 2 bs ≡ Bad d → (2 ≤ d) × (d ≤ run bs + 2)

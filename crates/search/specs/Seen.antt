@@ -10,7 +10,7 @@ use Rattle.search.specs.declared.heads.Seen.the-variants.{Whole, Bad, Un
 
 -- A start that is not undecided is bad, unless it was settled by as many bytes as a frame there has: of those the reader
 -- of one frame decides. No other start is settled by that many: a mark or a count settles one with 1 to 4 bytes, where a
--- frame has 6 or 75; and a sentence's is settled by 1, by 130, or by 2 more than its payload, where a frame has 6 more.
+-- frame has 6, 75 or 76; and a sentence's is settled by 1, by 130, or by 2 more than its payload, where a frame has 6 more.
 unfoldable pub seen : ℕ → List ℕ → SeenType.Seen
 seen family bs =
     cond (undecided family bs) Undecided

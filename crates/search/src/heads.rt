@@ -45,7 +45,7 @@ pub(crate) fn examine_packet(family: u8, s: &[u8]) -> Seen
     if s.len() == 3 {
         return Seen::Undecided;
     }
-    let n = bytes_needed(family, s[3]);
+    let n = bytes_needed(family, s);
     if n == 0 {
         return Seen::Bad(4);
     }

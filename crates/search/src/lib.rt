@@ -53,7 +53,7 @@ fn ruled_out(family: u8, s: &[u8]) -> bool
     requires { ⌜ isSpe family ≡ true ⌝ }
     ensures { λ r. ⌜ (r ≡ true → isGood (readOne family (now (s .entry))) ≡ false) ⌝ }
 {
-    if s.len() == REPORT_LENGTH {
+    if REPORT_LENGTH <= s.len() {
         return !ends_report(s);
     }
     if family == COMMANDS {

@@ -11,7 +11,7 @@ use lib.Dec.{eqb, leb}
 use lib.ListN.{length, take, getD}
 use Rattle.rules.specs.Bytes.{ascii, oneOf, between, every, same, first, total}
 use Rattle.rules.specs.Numbers.{isDigit, decimal, padded, paddedNumber, pointed, pointedNumber}
-use Rattle.rules.specs.Status.{joined, cut, widths, field, readable, statusInRange, statusOf, warnings, alarms}
+use Rattle.rules.specs.Status.{joined, cut, widths, field, readable, fieldsInRange, statusOf, warnings, alarms}
 use Rattle.frame_laws.proofs.Bytes.{one-by-one, places, every-weaker, one-of-these, alike}
 use Rattle.frame_laws.proofs.Fields.{commasAt, commas-at}
 use Rattle.texts.specs.Parts.{inBounds}
@@ -171,8 +171,8 @@ module _ (bytes : List ℕ) where
       ∷ (bytesOf 19 ∷ oneOf alarms (first (field 19 d)) ∷ [])
       ∷ []
 
-  rules-are : (readable d && statusInRange (statusOf d)) ≡ rulesInOrder (numbered (rules (eqb (decimal (take 2 (field 1 d))) 20)))
-  unfolding readable statusInRange statusOf
+  rules-are : (readable d && fieldsInRange (statusOf 0 d)) ≡ rulesInOrder (numbered (rules (eqb (decimal (take 2 (field 1 d))) 20)))
+  unfolding readable fieldsInRange statusOf
   rules-are = refl
 
   limits-apart : (big : Bool) → (let t = numbered (tests big) in cond big (limits20K d) (limits13K d) ≡ (t 12 && t 42 && t 62 && t 73 && t 82 && t 163 && t 173))
@@ -224,7 +224,7 @@ module _ (bytes : List ℕ) where
       only-if _ (λ big. behindId (numbered (rules big))) _ _
       (λ e. first-tells (x 1) (x 2) (x 3) (sym (id-text (x 1) (x 2) (x 3)) ∙ e))
 
-  bytes-agree : (readable d && statusInRange (statusOf d)) ≡ (textsWithin leasts mosts (cut 0 widths d) && lettersGood d && allFollow marks d && limitsGood d)
+  bytes-agree : (readable d && fieldsInRange (statusOf 0 d)) ≡ (textsWithin leasts mosts (cut 0 widths d) && lettersGood d && allFollow marks d && limitsGood d)
   bytes-agree =
       rules-are
       ∙ rules-by-field (numbered (rules (eqb (decimal (x 1 ∷ x 2 ∷ [])) 20)))
@@ -237,20 +237,20 @@ commas-first : (c w l s m : Bool) → (c && w && l && s && m) ≡ (c && (w && l 
 commas-first c w l s m = simp and-assoc
 
 module _ (d : List ℕ) (size : length d ≡ 67) where
-  fields-alike : (readable d && statusInRange (statusOf d)) ≡ (textsWithin leasts mosts (cut 0 widths d) && lettersGood d && allFollow marks d && limitsGood d)
+  fields-alike : (readable d && fieldsInRange (statusOf 0 d)) ≡ (textsWithin leasts mosts (cut 0 widths d) && lettersGood d && allFollow marks d && limitsGood d)
   fields-alike =
-      subst (λ l. (readable l && statusInRange (statusOf l)) ≡ (textsWithin leasts mosts (cut 0 widths l) && lettersGood l && allFollow marks l && limitsGood l))
+      subst (λ l. (readable l && fieldsInRange (statusOf 0 l)) ≡ (textsWithin leasts mosts (cut 0 widths l) && lettersGood l && allFollow marks l && limitsGood l))
       (one-by-one 0 67 d size) (bytes-agree d)
 
   -- the rules of the data are the tests
-  pub data-alike : (same d (joined (cut 0 widths d)) && readable d && statusInRange (statusOf d))
+  pub data-alike : (same d (joined (cut 0 widths d)) && readable d && fieldsInRange (statusOf 0 d))
       ≡ (inBounds (joined leasts) (joined mosts) d && lettersGood d && allFollow marks d && limitsGood d)
   unfolding total
   data-alike =
       let commas = commas-at 0 widths d size in
       let bounds = within-joined 0 leasts mosts d refl size in
-      ap (λ c. c && readable d && statusInRange (statusOf d)) commas
-      ∙ and-assoc (commasAt 0 widths d) (readable d) (statusInRange (statusOf d))
+      ap (λ c. c && readable d && fieldsInRange (statusOf 0 d)) commas
+      ∙ and-assoc (commasAt 0 widths d) (readable d) (fieldsInRange (statusOf 0 d))
       ∙ ap (λ b. commasAt 0 widths d && b) fields-alike
       ∙ sym
       (ap (λ b. b && lettersGood d && allFollow marks d && limitsGood d) bounds

@@ -43,7 +43,7 @@ module _ (d : List ℕ) (h : length d ≡ 67) where
       ap (weighed 0) (both-parts a 2 b n p q e ∙ ap (λ (t : List ℕ). take 2 t ++ drop 3 t) (text a k r)) ∙ pointed-weighed 2 (part a k d) good
 
 -- All values of data that can be read: those weighed, and those that stand at a place.
-module _ (d : List ℕ) (h : length d ≡ 67) (good : readable d ≡ true) where
+module _ (comma : ℕ) (d : List ℕ) (h : length d ≡ 67) (good : readable d ≡ true) where
   abbrev valuesAt : (id band watts swratu swrant volts amperes upper lower combiner : ℕ) → Status
   valuesAt id band watts swratu swrant volts amperes upper lower combiner = record {
     id = id;
@@ -66,6 +66,7 @@ module _ (d : List ℕ) (h : length d ≡ 67) (good : readable d ≡ true) where
     combiner = combiner;
     warning = getD d 63 0;
     alarm = getD d 65 0;
+    comma = comma;
   }
 
   pub status-at : {id band watts swratu swrant volts amperes upper lower combiner : ℕ}
@@ -74,7 +75,7 @@ module _ (d : List ℕ) (h : length d ≡ 67) (good : readable d ≡ true) where
       → swrant ≡ weighed 0 (part 35 2 d ++ part 38 2 d) → volts ≡ weighed 0 (part 41 2 d ++ part 44 1 d)
       → amperes ≡ weighed 0 (part 46 2 d ++ part 49 1 d) → upper ≡ weighed 0 (part 51 2 d ++ part 53 1 d)
       → lower ≡ weighed 0 (part 55 2 d ++ part 57 1 d) → combiner ≡ weighed 0 (part 59 2 d ++ part 61 1 d)
-      → valuesAt id band watts swratu swrant volts amperes upper lower combiner ≡ statusOf d
+      → valuesAt id band watts swratu swrant volts amperes upper lower combiner ≡ statusOf comma d
   unfolding readable statusOf
   status-at e1 e6 e10 e11 e12 e13 e14 e15 e16 e17 = λ i. record {
     id = (e1 ∙ ap (λ (t : List ℕ). weighed 0 t) (sym (text d h 1 2 (omega arith)) ∙ ap (take 2) (text d h 1 3 (omega arith))) ∙ digits-weighed 0 (take 2 (part 1 3 d)) (search tests depth 25)) i;
@@ -97,6 +98,7 @@ module _ (d : List ℕ) (h : length d ≡ 67) (good : readable d ≡ true) where
     combiner = (e17 ∙ padded-parts d h 59 2 61 1 3 (omega arith) (omega arith) (omega arith) refl (search tests depth 25)) i;
     warning = letter d h 63 (omega arith) i;
     alarm = letter d h 65 (omega arith) i;
+    comma = comma;
   }
 
 -- the data of a good report can be read

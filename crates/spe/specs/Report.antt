@@ -3,8 +3,8 @@ use Prim.Native.Nat.{ℕ, _+_, _*_, _%_}
 use mathlib.Core.Bool.{true, false, cond}
 use mathlib.Core.List.{List, [], _∷_}
 use lib.ListN.{replicate}
-use Rattle.rules.specs.Status.{statusOf, isStatus, dataOf}
-use Rattle.rules.specs.Answers.{notGood, statusNumbers}
+use Rattle.rules.specs.Status.{statusIn, isStatus}
+use Rattle.rules.specs.Answers.{notGood, statusNumbers, statusValues}
 use Rattle.rules.specs.declared.Frame.the-variants.{Status}
 use Rattle.rules.specs.declared.Reading.{Reading}
 use Rattle.rules.specs.declared.Reading.the-variants.{Good, Refused}
@@ -17,9 +17,9 @@ weighed n (b ∷ bs) = weighed (n * 10 + b % 16) bs
 
 -- a status report, or none
 unfoldable pub reportIn : List ℕ → Reading
-reportIn bs = cond (isStatus bs) (Good (Status (statusOf (dataOf bs)))) (Refused notGood)
+reportIn bs = cond (isStatus bs) (Good (Status (statusIn bs))) (Refused notGood)
 
 -- whether bytes are a status report, and the numbers of its fields; of other bytes zeros
 unfoldable pub numbersIn : List ℕ → ReportNumbers
 numbersIn bs =
-    cond (isStatus bs) (record { good = true; numbers = statusNumbers (statusOf (dataOf bs)) }) (record { good = false; numbers = replicate 20 0 })
+    cond (isStatus bs) (record { good = true; numbers = statusNumbers (statusIn bs) }) (record { good = false; numbers = replicate statusValues 0 })

@@ -6,7 +6,7 @@ use mathlib.Core.List.{List, [], _∷_}
 use lib.Dec.{eqb, leb}
 use lib.ListN.{getD}
 use Rattle.rules.specs.Bytes.{ascii, oneOf, every, first, same}
-use Rattle.rules.specs.Status.{field, joined, cut, widths, readable, statusInRange, statusOf, warnings, alarms}
+use Rattle.rules.specs.Status.{field, joined, cut, widths, readable, fieldsInRange, statusOf, warnings, alarms}
 
 -- b may stand behind a in a padded number: a space only behind a space
 abbrev pub follows : ℕ → ℕ → Bool
@@ -50,6 +50,6 @@ limits13K d =
 unfoldable pub limitsGood : List ℕ → Bool
 limitsGood d = cond (eqb (first (field 1 d)) (code "2")) (limits20K d) (limits13K d)
 
--- data with commas between its fields, of which each can be read, and all are in their ranges
+-- data with commas between its fields, of which each can be read, and all are in their ranges, whatever the report's form
 unfoldable pub dataGood : List ℕ → Bool
-dataGood d = same d (joined (cut 0 widths d)) && readable d && statusInRange (statusOf d)
+dataGood d = same d (joined (cut 0 widths d)) && readable d && fieldsInRange (statusOf 0 d)

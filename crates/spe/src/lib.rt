@@ -8,13 +8,16 @@ mod status;
 pub use codes::is_ack_code;
 pub use codes::is_code;
 pub use ends::begins_report;
+pub use ends::comma_in;
 pub use ends::ends_report;
+pub use ends::report_length;
 pub use packets::is_ack;
 pub use packets::is_command;
 use rules::DATA_LENGTH;
 use rules::Frame;
 use rules::NOT_GOOD;
 use rules::Reading;
+use rules::STATUS_VALUES;
 use rules::Status;
 pub use status::is_status;
 use texts::text;
@@ -32,7 +35,7 @@ ghost use Rattle.spe.specs.Report.{weighed, numbersIn, reportIn};
 // Whether some bytes are a status report, and the numbers of its fields.
 pub struct ReportNumbers {
     pub good: bool,
-    pub numbers: [u32; 20],
+    pub numbers: [u32; STATUS_VALUES],
 }
 
 // The number in two bytes of a good report: a digit counts as itself, a space before it as nothing.
@@ -59,10 +62,10 @@ fn four_at(d: &[u8], a: usize, b: usize) -> u32
     wide(two_at(d, a)) * 100 + wide(two_at(d, b))
 }
 
-// The values of a report's data that can be read, by the places where the widths put its fields.
-fn read_values(d: &[u8]) -> Status
+// The values of a report's data that can be read, by the places where the widths put its fields, and its form.
+fn read_values(d: &[u8], comma: u8) -> Status
     requires { ⌜ (length (now d) ≡ dataLength) × (readable (now d) ≡ true) ⌝ }
-    ensures { λ r. ⌜ r ≡ statusOf (now (d .entry)) ⌝ }
+    ensures { λ r. ⌜ r ≡ statusOf comma (now (d .entry)) ⌝ }
 {
     Status {
         id: two_at(d, 1),
@@ -85,14 +88,15 @@ fn read_values(d: &[u8]) -> Status
         combiner: three_at(d, 59, 61),
         warning: d[63],
         alarm: d[65],
+        comma,
     }
 }
 
-// The same as twenty numbers, in the order of the fields. They stand here a second time beside the record's: rows made of
+// The same as numbers, in the order of the fields. They stand here a second time beside the record's: rows made of
 // the record took calls of 16 and of 4,096 bytes a quarter to two fifths longer.
-fn numbers_at(d: &[u8]) -> [u32; 20]
+fn numbers_at(d: &[u8], comma: u8) -> [u32; STATUS_VALUES]
     requires { ⌜ (length (now d) ≡ dataLength) × (readable (now d) ≡ true) ⌝ }
-    ensures { λ r. ⌜ r ≡ statusNumbers (statusOf (now (d .entry))) ⌝ }
+    ensures { λ r. ⌜ r ≡ statusNumbers (statusOf comma (now (d .entry))) ⌝ }
 {
     [
         two_at(d, 1) as u32,
@@ -115,6 +119,7 @@ fn numbers_at(d: &[u8]) -> [u32; 20]
         three_at(d, 59, 61),
         d[63] as u32,
         d[65] as u32,
+        comma as u32,
     ]
 }
 
@@ -125,10 +130,10 @@ pub fn read_numbers(s: &[u8]) -> ReportNumbers
     if !is_status(s) {
         return ReportNumbers {
             good: false,
-            numbers: [0u32; 20],
+            numbers: [0u32; STATUS_VALUES],
         };
     }
-    let numbers = numbers_at(text(s, 4, DATA_LENGTH));
+    let numbers = numbers_at(text(s, 4, DATA_LENGTH), comma_in(s));
     ReportNumbers {
         good: true,
         numbers,
@@ -142,7 +147,7 @@ fn read_report(s: &[u8]) -> Reading
     if !is_status(s) {
         return Reading::Refused(NOT_GOOD);
     }
-    let status = read_values(text(s, 4, DATA_LENGTH));
+    let status = read_values(text(s, 4, DATA_LENGTH), comma_in(s));
     Reading::Good(Frame::Status(status))
 }
 

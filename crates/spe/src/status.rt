@@ -1,8 +1,8 @@
 // The test of a status report as a whole, which reads no field: its frame, then its data.
 use crate::ends::begins_report;
 use crate::ends::ends_report;
+use crate::ends::report_length;
 use rules::DATA_LENGTH;
-use rules::REPORT_LENGTH;
 use texts::sum;
 use texts::text;
 use texts::wide;
@@ -10,14 +10,14 @@ use texts::within;
 ghost use mathlib.Core.Path.{_≡_};
 ghost use lib.ListN.{length};
 ghost use Rattle.rules.specs.Bytes.{oneOf, same};
-ghost use Rattle.rules.specs.Status.{dataLength, statusFrame, dataOf, isStatus, warnings, alarms};
+ghost use Rattle.rules.specs.Status.{dataLength, commaIn, statusFrame, dataOf, isStatus, warnings, alarms};
 ghost use Rattle.spe.specs.ReportTests.{allFollow, lettersGood, limitsGood, dataGood};
 
-// Whether the bytes are a report's frame around their own data: marks, count, sums, 0D 0A.
+// Whether the bytes are a report's frame around their own data: marks, count, sums, 0D 0A with a comma before it or without.
 fn is_report(s: &[u8]) -> bool
-    ensures { λ r. ⌜ r ≡ same (now (s .entry)) (statusFrame (dataOf (now (s .entry)))) ⌝ }
+    ensures { λ r. ⌜ r ≡ same (now (s .entry)) (statusFrame (commaIn (now (s .entry))) (dataOf (now (s .entry)))) ⌝ }
 {
-    if s.len() != REPORT_LENGTH {
+    if s.len() != report_length(s) {
         return false;
     }
     if !begins_report(s) {

@@ -1,17 +1,18 @@
 -- The report's parts: how long each is, and that they are together the report.
 -- The texts have their widths whatever the record holds. Assumes nothing.
-use Prim.Native.Nat.{ℕ}
+use Prim.Native.Nat.{ℕ, _+_, _≤_}
 use Prim.Native.Char.{code}
 use mathlib.Core.Path.{_≡_, refl, ap, _∙_}
+use mathlib.Core.Bool.{true}
 use mathlib.Core.List.{List, [], _∷_, _++_, append-assoc}
 use native.Mathlib.Omega.{arith}
 use lib.ListN.{length, take, drop, length-append}
 use Rattle.rules.specs.Sentences.{commas}
-use Rattle.rules.specs.Status.{statusTexts, statusFrame, statusBytes, joined}
+use Rattle.rules.specs.Status.{statusTexts, statusBytes, statusInRange, joined}
 use Rattle.rules.specs.declared.Status.{Status}
 use Rattle.frame_laws.proofs.Numbers.{zeros-length, spaces-length, point-length}
-use Rattle.frame_laws.proofs.Report.{texts-length}
-use Rattle.spe_writer.specs.Fields.{check}
+use Rattle.frame_laws.proofs.Comma.{frame-length, frame-at-most}
+use Rattle.frame_laws.proofs.Report.{fits, texts-length}
 
 -- texts behind commas, and more of them behind
 commas-append : (ts us : List (List ℕ)) → commas ts ++ commas us ≡ commas (ts ++ us)
@@ -50,8 +51,9 @@ module _ (s : Status) where
       let d = take 5 (drop 9 (statusTexts s)) in
       rw (commas-append a b, commas-append (a ++ b) d) (joined-append (a ++ b ++ d) (drop 14 (statusTexts s)))
 
-  pub report-length : length (statusBytes s) ≡ 75
-  unfolding statusFrame
-  report-length =
-      let d = joined (statusTexts s) in
-      omega (arith, length-append d (check d), texts-length s)
+  pub report-length : statusInRange s ≡ true → length (statusBytes s) ≡ 75 + s .comma
+  report-length e =
+      omega (arith, frame-length (s .comma) (joined (statusTexts s)) (fits s e .comma), texts-length s)
+
+  pub report-at-most : length (statusBytes s) ≤ 76
+  report-at-most = omega (arith, frame-at-most (s .comma) (joined (statusTexts s)), texts-length s)

@@ -12,6 +12,6 @@ letter b = code "," ∷ b ∷ []
 abbrev pub pointIn : ℕ → ℕ → ℕ → List ℕ
 pointIn d scale n = fieldIn (code " ") 2 (n / scale) ++ code "." ∷ numberIn (code "0") d (n % scale)
 
--- what stands behind the data
+-- the checksum, behind the data
 abbrev pub check : List ℕ → List ℕ
-check d = total d % 256 ∷ total d / 256 ∷ 0x0D ∷ 0x0A ∷ []
+check d = total d % 256 ∷ total d / 256 ∷ []

@@ -3,7 +3,7 @@ use rules::Status;
 use texts::one_of;
 ghost use mathlib.Core.Path.{_≡_};
 ghost use Rattle.rules.specs.Bytes.{ascii, oneOf};
-ghost use Rattle.rules.specs.Status.{by, statusInRange};
+ghost use Rattle.rules.specs.Status.{by, fieldsInRange, statusInRange};
 
 // The limit that a 20K keeps, or the one that a 13K keeps.
 fn by_id(id: u8, big: u32, small: u32) -> u32
@@ -23,9 +23,9 @@ fn bank_allowed(id: u8, bank: u8) -> bool
     }
 }
 
-// Whether a report can hold these values.
-pub(crate) fn status_in_range(s: Status) -> bool
-    ensures { λ r. ⌜ r ≡ statusInRange s ⌝ }
+// Whether the fields of a report can hold these values.
+fn fields_in_range(s: Status) -> bool
+    ensures { λ r. ⌜ r ≡ fieldsInRange s ⌝ }
 {
     let band = s.band as u32;
     let transmit = s.transmit as u32;
@@ -50,4 +50,11 @@ pub(crate) fn status_in_range(s: Status) -> bool
         & (s.combiner <= by_id(s.id, 999, 0))
         & one_of(b"MASBPOYWKRTCN", s.warning)
         & one_of(b"SADHCN", s.alarm)
+}
+
+// Whether a report can hold them, in one of its two forms.
+pub(crate) fn status_in_range(s: Status) -> bool
+    ensures { λ r. ⌜ r ≡ statusInRange s ⌝ }
+{
+    fields_in_range(s) & (s.comma <= 1)
 }

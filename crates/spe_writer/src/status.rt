@@ -12,7 +12,7 @@ ghost use lib.ListN.{length, take, drop};
 ghost use Rattle.pens.specs.Pens.{laid};
 ghost use Rattle.rules.specs.Answers.{Writes, noRecord};
 ghost use Rattle.rules.specs.Bytes.{part};
-ghost use Rattle.rules.specs.Status.{dataLength, reportLength, statusInRange, statusTexts, statusBytes, joined};
+ghost use Rattle.rules.specs.Status.{dataLength, reportLength, lineEnd, statusInRange, statusTexts, statusBytes, joined};
 ghost use Rattle.rules.specs.Sentences.{commas};
 ghost use Rattle.spe_writer.specs.Fields.{letter, pointIn, check};
 
@@ -85,7 +85,7 @@ fn lay_state(s: Status, out: &mut [u8])
     pens::put_byte(out, 70, b',');
 }
 
-// The sum of the 67 data bytes, in two bytes, and the end of the frame.
+// The sum of the 67 data bytes, in two bytes.
 fn lay_check(out: &mut [u8])
     requires { ⌜ reportLength ≤ length (now out) ⌝ }
     ensures { λ _. ⌜ now (out .exit) ≡ laid 71 (check (part 4 dataLength (now (out .entry)))) (now (out .entry)) ⌝ }
@@ -93,13 +93,24 @@ fn lay_check(out: &mut [u8])
     let sum = texts::sum(&out[4..71]);
     let low = (sum % 256) as u8;
     let high = (sum / 256) as u8;
-    let end = [low, high, 0x0D, 0x0A];
-    pens::put_bytes(out, 71, &end);
+    let sums = [low, high];
+    pens::put_bytes(out, 71, &sums);
+}
+
+// The line end, with the comma before it or without.
+fn lay_end(comma: u8, out: &mut [u8])
+    ensures { λ _. ⌜ now (out .exit) ≡ laid 73 (lineEnd comma) (now (out .entry)) ⌝ }
+{
+    if comma == 1 {
+        pens::put_bytes(out, 73, b",\r\n");
+        return;
+    }
+    pens::put_bytes(out, 73, b"\r\n");
 }
 
 // The head, the data and what stands behind it.
 fn lay_status(s: Status, out: &mut [u8])
-    requires { ⌜ (statusInRange s ≡ true) × (reportLength ≤ length (now out)) ⌝ }
+    requires { ⌜ (statusInRange s ≡ true) × (reportLength + s .comma ≤ length (now out)) ⌝ }
     ensures { λ _. ⌜ now (out .exit) ≡ laid 0 (statusBytes s) (now (out .entry)) ⌝ }
 {
     pens::put_bytes(out, 0, b"\xAA\xAA\xAA\x43");
@@ -108,18 +119,20 @@ fn lay_status(s: Status, out: &mut [u8])
     lay_readings(s, out);
     lay_state(s, out);
     lay_check(out);
+    lay_end(s.comma, out);
 }
 
-// A status report: 75 bytes.
+// A status report: 75 bytes, and one more with the comma.
 pub fn write_status(s: Status, out: &mut [u8]) -> Written
     ensures { λ r. ⌜ Writes (statusInRange s) noRecord (statusBytes s) (now (out .entry)) r (now (out .exit)) ⌝ }
 {
     if !status_in_range(s) {
         return Written::Refused(NO_RECORD);
     }
-    if out.len() < REPORT_LENGTH {
+    let length = REPORT_LENGTH + s.comma as usize;
+    if out.len() < length {
         return Written::Refused(NO_ROOM);
     }
     lay_status(s, out);
-    Written::Length(REPORT_LENGTH)
+    Written::Length(length)
 }

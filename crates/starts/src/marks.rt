@@ -1,16 +1,17 @@
-// What a start is known by: the mark of its family, what a count needs and the longest frame, and the payload bytes
+// What a start is known by: the mark of its family, how many bytes it needs and the longest frame, and the payload bytes
 // behind a dollar sign.
 use checksums::payload_byte;
 use rules::CODE_COUNT;
 use rules::COMMAND_MARK;
 use rules::COMMANDS;
 use rules::LONGEST_PAYLOAD;
+use rules::LONGEST_REPORT;
 use rules::LONGEST_SENTENCE;
 use rules::PACKET_LENGTH;
 use rules::REPLIES;
 use rules::REPLY_MARK;
 use rules::REPORT_COUNT;
-use rules::REPORT_LENGTH;
+use spe::report_length;
 use texts::text;
 ghost use mathlib.Core.Path.{_≡_};
 ghost use Prim.Native.Nat.{min};
@@ -30,15 +31,19 @@ pub fn mark_of(family: u8) -> u8
     }
 }
 
-// How many bytes a count needs; 0 where it is not allowed.
-pub fn bytes_needed(family: u8, count: u8) -> usize
-    ensures { λ r. ⌜ r ≡ needs family count ⌝ }
+// How many bytes a start needs, by its count, and a report by its form; 0 where there is no count, or it is not allowed.
+pub fn bytes_needed(family: u8, start: &[u8]) -> usize
+    ensures { λ r. ⌜ r ≡ needs family (now (start .entry)) ⌝ }
 {
+    if start.len() < 4 {
+        return 0;
+    }
+    let count = start[3];
     if count == CODE_COUNT {
         return PACKET_LENGTH;
     }
     if (family == REPLIES) & (count == REPORT_COUNT) {
-        return REPORT_LENGTH;
+        return report_length(start);
     }
     0
 }
@@ -48,7 +53,7 @@ pub fn longest_frame(family: u8) -> usize
     ensures { λ r. ⌜ r ≡ longest family ⌝ }
 {
     if family == REPLIES {
-        return REPORT_LENGTH;
+        return LONGEST_REPORT;
     }
     if family == COMMANDS {
         return PACKET_LENGTH;

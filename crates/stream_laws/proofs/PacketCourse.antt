@@ -16,15 +16,12 @@ use Rattle.rules.specs.Answers.{readOne}
 use Rattle.stream_rules.specs.Heads.{isSpe, markOf, needs, wait, headOf, head}
 use Rattle.stream_laws.proofs.Lists.{front-at}
 use Rattle.stream_laws.proofs.Course.{Course, waits, turns-bad, is-whole}
-use Rattle.stream_laws.proofs.PacketStarts.{Marks, needs-six, needs-longest, few-marks, no-mark, no-count, bytes-missing, all-there}
+use Rattle.stream_laws.proofs.PacketStarts.{Marks, needs-six, needs-longest, packet-fits, front-has-all, front-has-fewer, few-marks, no-mark, no-count, bytes-missing, all-there}
 
 module _ (family : ℕ) (spe : isSpe family ≡ true) (bs : List ℕ) where
-  -- A front has the marks and the count of the whole, as far as it goes;
+  -- A front has the marks of the whole, as far as it goes;
   front-marks : (m k : ℕ) → k ≤ length (take m bs) → Marks family k bs → Marks family k (take m bs)
   front-marks m k within marks i h = front-at bs m i (omega arith) ∙ marks i h
-
-  front-needs : (m : ℕ) → 4 ≤ length (take m bs) → needs family (getD (take m bs) 3 0) ≡ needs family (getD bs 3 0)
-  front-needs m there = ap (needs family) (front-at bs m 3 there)
 
   -- so it is undecided while it has only marks and is short,
   front-few : (m k : ℕ) → length (take m bs) ≤ k → k < 4 → Marks family k bs → head family (take m bs) ≡ wait
@@ -33,16 +30,16 @@ module _ (family : ℕ) (spe : isSpe family ≡ true) (bs : List ℕ) where
       few-marks family spe (take m bs) (omega arith) (front-marks m n (omega arith) (λ i h. marks i (omega arith)))
 
   -- and while it has fewer bytes than the count needs.
-  front-missing : (m : ℕ) → Marks family 3 bs → length (take m bs) < needs family (getD bs 3 0) → head family (take m bs) ≡ wait
+  front-missing : (m : ℕ) → Marks family 3 bs → length (take m bs) < needs family bs → head family (take m bs) ≡ wait
   front-missing m marks fewer =
       elim (decLt (length (take m bs)) 4) [
         | yes few ↦ front-few m 3 (omega arith) (omega arith) marks
-        | no more ↦ bytes-missing family spe (take m bs) (omega arith) (front-marks m 3 (omega arith) marks) _ (front-needs m (omega arith)) fewer
+        | no more ↦ bytes-missing family spe (take m bs) (omega arith) (front-marks m 3 (omega arith) marks) _ refl (front-has-fewer family m bs (omega arith) fewer)
       ]
 
   -- All marks, and fewer than four bytes: undecided all along.
   course-few : (k : ℕ) → length bs ≤ k → k < 4 → Marks family k bs → Course family bs
-  course-few k within few marks = waits (λ m. front-few m k (omega (arith, length-take m bs)) few marks) (omega (arith, needs-longest family 1))
+  course-few k within few marks = waits (λ m. front-few m k (omega (arith, length-take m bs)) few marks) (omega (arith, packet-fits family))
 
   -- Byte k is the first that is no mark: bad from there on.
   course-no-mark : (k : ℕ) → k < 3 → k < length bs → Marks family k bs → (getD bs k 0 ≡ markOf family → ⊥) → Course family bs
@@ -51,7 +48,7 @@ module _ (family : ℕ) (spe : isSpe family ≡ true) (bs : List ℕ) where
       record {
         some = omega arith;
         there = omega arith;
-        short = omega (arith, needs-longest family 1);
+        short = omega (arith, packet-fits family);
         before = λ m h. front-few m k (omega (arith, length-take m bs)) (omega arith) marks;
         after = λ m h.
             let within : k < length (take m bs) = omega (arith, length-take m bs) in
@@ -60,39 +57,39 @@ module _ (family : ℕ) (spe : isSpe family ≡ true) (bs : List ℕ) where
       }
 
   -- The count is not allowed: bad from there on.
-  course-no-count : 4 ≤ length bs → Marks family 3 bs → needs family (getD bs 3 0) ≡ 0 → Course family bs
+  course-no-count : 4 ≤ length bs → Marks family 3 bs → needs family bs ≡ 0 → Course family bs
   course-no-count there marks none =
       turns-bad 4
       record {
         some = omega arith;
         there = there;
-        short = omega (arith, needs-longest family 1);
+        short = omega (arith, packet-fits family);
         before = λ m h. front-few m 3 (omega (arith, length-take m bs)) (omega arith) marks;
         after = λ m h.
             let within : 4 ≤ length (take m bs) = omega (arith, length-take m bs) in
-            no-count family spe (take m bs) within (front-marks m 3 (omega arith) marks) (front-needs m within ∙ none) .0;
+            no-count family spe (take m bs) within (front-marks m 3 (omega arith) marks) (front-has-all family m bs within (omega arith) ∙ none) .0;
         counted = no-count family spe bs there marks none .1;
       }
 
   -- Fewer bytes than the count needs: undecided all along.
-  course-missing : Marks family 3 bs → length bs < needs family (getD bs 3 0) → Course family bs
+  course-missing : Marks family 3 bs → length bs < needs family bs → Course family bs
   course-missing marks fewer =
-      waits (λ m. front-missing m marks (omega (arith, length-take m bs))) (omega (arith, needs-longest family (getD bs 3 0)))
+      waits (λ m. front-missing m marks (omega (arith, length-take m bs))) (omega (arith, needs-longest family bs))
 
   -- All the bytes that the count needs: with the last of them the frame is whole.
-  course-there : 4 ≤ length bs → Marks family 3 bs → 0 < needs family (getD bs 3 0) → needs family (getD bs 3 0) ≤ length bs → Course family bs
+  course-there : 4 ≤ length bs → Marks family 3 bs → 0 < needs family bs → needs family bs ≤ length bs → Course family bs
   course-there there marks some enough =
-      let n = needs family (getD bs 3 0) in
+      let n = needs family bs in
       is-whole n (rw spe)
       record {
         some = some;
         there = enough;
-        short = needs-longest family (getD bs 3 0);
+        short = needs-longest family bs;
         before = λ m h. front-missing m marks (omega (arith, length-take m bs));
         after = λ m h.
             let within : n ≤ length (take m bs) = omega (arith, length-take m bs) in
-            let at-3 : 4 ≤ length (take m bs) = omega (arith, needs-six family (getD bs 3 0) some) in
-            all-there family spe (take m bs) at-3 (front-marks m 3 (omega arith) marks) n (front-needs m at-3) some within .0
+            let at-3 : 4 ≤ length (take m bs) = omega (arith, needs-six family bs some) in
+            all-there family spe (take m bs) at-3 (front-marks m 3 (omega arith) marks) n (front-has-all family m bs at-3 within) some within .0
             ∙ ap (λ (front : List ℕ). headOf n (readOne family front)) (take-take n m bs h);
         counted = all-there family spe bs there marks n refl some enough .1;
       }
@@ -100,11 +97,11 @@ module _ (family : ℕ) (spe : isSpe family ≡ true) (bs : List ℕ) where
   -- Behind three marks the count tells which;
   course-by-count : 4 ≤ length bs → Marks family 3 bs → Course family bs
   course-by-count there marks =
-      elim (decLt (length bs) (needs family (getD bs 3 0))) [
+      elim (decLt (length bs) (needs family bs)) [
         | yes fewer ↦ course-missing marks fewer
         | no enough ↦
             ⊎-elim (course-no-count there marks) (λ some. course-there there marks some (omega arith))
-            (eq-zero-or-pos (needs family (getD bs 3 0)))
+            (eq-zero-or-pos (needs family bs))
       ]
 
   -- before that, the first byte that is no mark, of those that are left of the three behind the first k.

@@ -32,7 +32,7 @@ wrap-on a b = mod-add-mod a (2 ^ 32) b
 pub longest-fits : (family : ℕ) → longest family ≤ 134
 longest-fits family = go (eqb family 1) (eqb family 3)
   where
-    go : (a b : Bool) → cond a 75 (cond b 6 134) ≤ 134
+    go : (a b : Bool) → cond a 76 (cond b 6 134) ≤ 134
     go true b = omega arith
     go false true = omega arith
     go false false = omega arith

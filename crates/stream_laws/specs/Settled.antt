@@ -15,8 +15,8 @@ spe-settled family bs =
     cond (not (eqb (markOf family) (getD bs 0 0))) 1
     (cond (not (eqb (markOf family) (getD bs 1 0))) 2
     (cond (not (eqb (markOf family) (getD bs 2 0))) 3
-    (cond (eqb (needs family (getD bs 3 0)) 0) 4
-    (needs family (getD bs 3 0)))))
+    (cond (eqb (needs family bs) 0) 4
+    (needs family bs))))
 
 -- a byte that is no `$`, or a payload byte too many, or the byte that ends the payload, and four more behind `*`
 unfoldable pub sentence-settled : List ℕ → ℕ

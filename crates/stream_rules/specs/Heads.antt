@@ -7,7 +7,7 @@ use lib.Dec.{eqb, leb, ltb}
 use lib.ListN.{length, take, drop, getD}
 use Rattle.rules.specs.Bytes.{every}
 use Rattle.rules.specs.Codes.{packetLength}
-use Rattle.rules.specs.Status.{reportLength}
+use Rattle.rules.specs.Status.{longestReport, reportLengthIn}
 use Rattle.rules.specs.Sentences.{longestPayload, shortestSentence, longestSentence, isPayloadByte}
 use Rattle.rules.specs.Answers.{replies, commands, readOne}
 use Rattle.rules.specs.declared.Frame.{Frame}
@@ -19,9 +19,9 @@ use Rattle.rules.specs.declared.Reading.the-variants.{Good, Refused}
 abbrev pub isSpe : ℕ → Bool
 isSpe family = eqb family replies || eqb family commands
 
--- The longest frame: 75 bytes of an SPE reply, 6 of a command, 134 of a sentence.
+-- The longest frame: 76 bytes of an SPE reply, 6 of a command, 134 of a sentence.
 abbrev pub longest : ℕ → ℕ
-longest family = cond (eqb family replies) reportLength (cond (eqb family commands) packetLength longestSentence)
+longest family = cond (eqb family replies) longestReport (cond (eqb family commands) packetLength longestSentence)
 
 -- The shortest frame: 6 bytes of an SPE packet with a code, 11 of a sentence with the shortest payload; and the shortest
 -- of all families.
@@ -32,17 +32,21 @@ abbrev pub shortestFrame : ℕ
 shortestFrame = packetLength
 
 -- An SPE start is undecided while there are fewer than four bytes that match the three marks as far as they go, or three
--- marks and an allowed count with fewer bytes than that count needs. A count that is not allowed needs none.
+-- marks and an allowed count with fewer bytes than that count needs: of a report 76 where a comma stands behind its checksum,
+-- else 75. A count that is not allowed needs none.
 abbrev pub markOf : ℕ → ℕ
 markOf family = cond (eqb family commands) 0x55 0xAA
 
-abbrev pub needs : ℕ → ℕ → ℕ
-needs family count = cond (eqb count 0x01) packetLength (cond (eqb family replies && eqb count 0x43) reportLength 0)
+abbrev pub countOf : List ℕ → ℕ
+countOf bs = getD bs 3 0
+
+abbrev pub needs : ℕ → List ℕ → ℕ
+needs family bs = cond (eqb (countOf bs) 0x01) packetLength (cond (eqb family replies && eqb (countOf bs) 0x43) (reportLengthIn bs) 0)
 
 unfoldable pub spe-undecided : ℕ → List ℕ → Bool
 spe-undecided family bs =
     (ltb (length bs) 4 && every (eqb (markOf family)) bs)
-    || (leb 4 (length bs) && every (eqb (markOf family)) (take 3 bs) && ltb (length bs) (needs family (getD bs 3 0)))
+    || (leb 4 (length bs) && every (eqb (markOf family)) (take 3 bs) && ltb (length bs) (needs family bs))
 
 -- A start of a sentence is undecided while it is `$` and 0 to 128 payload bytes, perhaps with `*` and fewer than four
 -- bytes after it. Where there is no byte, nothing is decided.
@@ -64,7 +68,7 @@ undecided family bs = cond (isSpe family) (spe-undecided family bs) (sentence-un
 -- How long a frame at the head would be: as long as its count needs, or its payload with `$`, `*` and four digits. A
 -- count that is not allowed makes it 0, and no bytes are no frame.
 abbrev pub lengthAt : ℕ → List ℕ → ℕ
-lengthAt family bs = cond (isSpe family) (needs family (getD bs 3 0)) (length (payloadRun (drop 1 bs)) + 6)
+lengthAt family bs = cond (isSpe family) (needs family bs) (length (payloadRun (drop 1 bs)) + 6)
 
 -- the head of a list: undecided, bad, or a good frame with its length
 pub data Head : Type 0 where

@@ -12,6 +12,7 @@ use borrow.Author.Tests.{ltb-false}
 use lib.ListN.{length}
 use Rattle.stream_rules.specs.declared.Reader.{Reader}
 use Rattle.held_bytes.specs.Places.{readerAt}
+use Rattle.rows.specs.Rows.{longestRow}
 use Rattle.row_stream.proofs.Fed.{laid, not-laid, as-it-was}
 use Rattle.row_stream.proofs.feed_any.Statement.{statement}
 use Rattle.row_stream.proofs.feed_any.Tie as tie
@@ -65,7 +66,7 @@ returns-3 c = λ long.
     let fed = called .feed-places .ensures long in
     let row = answered .lay-answer .ensures in
     let some = c .before .if2 .left in
-    let room = ltb-false (length (a .numbers .now)) 26 (c .if3 .left) in
+    let room = ltb-false (length (a .numbers .now)) longestRow (c .if3 .left) in
     let was = as-it-was (reader start) (a .offered .now) (a .numbers .now) _ _ _ fed row some room in
     not-laid (reader start) (a .offered .now) (a .numbers .now) _ _ _ fed row some _
     (ap (λ (r : Reader). readerAt (a .family) (a .closed) (a .count) (r .held) (a .at) (a .skipped)) was)

@@ -5,10 +5,10 @@ use rows::MORE_ROW;
 use rows::lay_heading;
 use rows::read_row;
 use rules::REPLIES;
-use rules::REPORT_LENGTH;
 use search::Stop;
 use search::next_stop;
 use spe::begins_report;
+use spe::report_length;
 use starts::advanced;
 use texts::further;
 ghost use mathlib.Core.Path.{_≡_};
@@ -18,7 +18,7 @@ ghost use lib.ListN.{length};
 ghost use Rattle.search.specs.Sought.{Stops};
 ghost use Rattle.search.specs.declared.Sought.the-variants.{Waiting};
 ghost use Rattle.row_stream.specs.RowSought.{ReportBegun, LaysSought, RoomToSeek, SeeksRow};
-ghost use Rattle.rules.specs.Status.{reportLength};
+ghost use Rattle.rules.specs.Status.{reportLengthIn};
 ghost use Rattle.rows.specs.Rows.{longestRow};
 
 // True only where a report begins at the first byte, of family 1.
@@ -33,13 +33,13 @@ fn report_begun(family: u8, s: &[u8]) -> bool
 
 // The first stop. A report that has begun and is whole is one: the walk need not be asked.
 fn first_stop(family: u8, s: &[u8], begun: bool) -> Stop
-    requires { ⌜ (begun ≡ true → ReportBegun family (now s) × (reportLength ≤ length (now s))) ⌝ }
+    requires { ⌜ (begun ≡ true → ReportBegun family (now s) × (reportLengthIn (now s) ≤ length (now s))) ⌝ }
     ensures { λ r. ⌜ Stops family (now (s .entry)) 0 0 r ⌝ }
 {
     if begun {
         return Stop {
             at: 0,
-            length: REPORT_LENGTH,
+            length: report_length(s),
             reach: 0,
         };
     }
@@ -112,7 +112,7 @@ pub(crate) fn seek_row(
     ensures { λ p. ⌜ SeeksRow family s count at skipped numbers p ⌝ }
 {
     let begun = report_begun(family, s);
-    if begun & (s.len() < REPORT_LENGTH) {
+    if begun & (s.len() < report_length(s)) {
         return lay_waiting(s.len(), count, 0, numbers);
     }
     let first = first_stop(family, s, begun);

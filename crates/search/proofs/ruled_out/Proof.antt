@@ -1,6 +1,7 @@
 -- `search::ruled_out` meets its contract: what fails its tests fails those of a good frame.
 -- Assumes nothing.
 use mathlib.Core.Path.{sym, _∙_}
+use native.Mathlib.Omega.{arith}
 use borrow.Author.Needs.{needs}
 use borrow.Author.Tests.{not-true}
 use Rattle.spe.proofs.ReportFrames.{not-ended}
@@ -16,7 +17,7 @@ returns : tie.Need-returns
 returns c =
     let whole = c .before in
     let long = whole .if1 .taken in
-    λ fails. no-report _ (whole .before .before .pre) _ long (not-ended _ long (sym (c .ends-report .ensures) ∙ not-true _ fails))
+    λ fails. no-report _ (whole .before .before .pre) _ long (not-ended _ (sym (c .ends-report .ensures) ∙ not-true _ fails))
 
 is-command-requires : tie.Need-is-command-requires
 is-command-requires c κs = search needs
@@ -31,7 +32,7 @@ returns-3 : tie.Need-returns-3
 returns-3 c =
     let reply = c .before in
     let short = reply .before in
-    λ fails. no-ack _ (short .before .before .pre) _ (short .if1 .left) (reply .if2 .left) (sym (c .is-ack .ensures) ∙ not-true _ fails)
+    λ fails. no-ack _ (short .before .before .pre) _ (omega (arith, short .if1 .left)) (reply .if2 .left) (sym (c .is-ack .ensures) ∙ not-true _ fails)
 
 pub ruled-out-spec : {M : Type 1} → statement M
 ruled-out-spec = tie.close (tie.spec ends-report-requires returns is-command-requires returns-2 is-ack-requires returns-3)

@@ -1,12 +1,12 @@
 -- `spe::read_report` meets its contract: the bytes are tested as a whole, and a good report's data can be read.
 -- Assumes nothing.
 use Prim.Native.Nat.{ℕ}
-use mathlib.Core.Path.{_≡_, sym, ap, _∙_}
+use mathlib.Core.Path.{_≡_, sym, ap, ap₂, _∙_}
 use mathlib.Core.Bool.{true, false}
 use mathlib.Core.List.{List}
 use borrow.Author.Tests.{not-true, not-false}
 use lib.ListN.{length}
-use Rattle.rules.specs.Status.{dataOf, readable, statusOf, isStatus}
+use Rattle.rules.specs.Status.{readable, statusOf, statusIn, isStatus}
 use Rattle.rules.specs.declared.Status as StatusType
 use Rattle.rules.specs.declared.Frame.the-variants.{Status}
 use Rattle.rules.specs.declared.Reading.the-variants.{Good, Refused}
@@ -21,7 +21,7 @@ module _ (s : List ℕ) where
   unfolding reportIn
   refused e = rw e
 
-  a-report : isStatus s ≡ true → Good (Status (statusOf (dataOf s))) ≡ reportIn s
+  a-report : isStatus s ≡ true → Good (Status (statusIn s)) ≡ reportIn s
   unfolding reportIn
   a-report e = rw e
 
@@ -38,16 +38,22 @@ returns c = refused _ (sym (c .before .is-status .ensures) ∙ not-true _ (c .if
 text-requires : tie.Need-text-requires
 text-requires c κs = search needs
 
+comma-in-requires : tie.Need-comma-in-requires
+comma-in-requires c κs = search needs
+
 read-values-requires : tie.Need-read-values-requires
 read-values-requires c κs =
-    let told = status-told _ (is-good c) in
-    (ap length (c .text .ensures .content) ∙ told .0, ap readable (c .text .ensures .content) ∙ told .1)
+    let t = c .before in
+    let told = status-told _ (is-good t) in
+    (ap length (t .text .ensures .content) ∙ told .0, ap readable (t .text .ensures .content) ∙ told .1)
 
 returns-2 : tie.Need-returns-2
 returns-2 c =
-    let t = c .before in
-    ap (λ (s : StatusType.Status). Good (Status s)) (c .read-values .ensures ∙ ap statusOf (t .text .ensures .content)) ∙ a-report _ (is-good t)
+    let k = c .before in
+    let t = k .before in
+    ap (λ (s : StatusType.Status). Good (Status s)) (c .read-values .ensures ∙ ap₂ statusOf (k .comma-in .ensures) (t .text .ensures .content))
+    ∙ a-report _ (is-good t)
 
 pub read-report-spec : {M : Type 1} → statement M
 read-report-spec =
-    tie.close (tie.spec is-status-requires returns text-requires read-values-requires returns-2)
+    tie.close (tie.spec is-status-requires returns text-requires comma-in-requires read-values-requires returns-2)

@@ -8,32 +8,32 @@ use Rattle.spe.proofs.read_values.Tie as tie
 two-at-requires : tie.Need-two-at-requires
 two-at-requires c κs = search needs
 
-shared-slice-read-t4 : tie.Need-shared-slice-read-t4
-shared-slice-read-t4 c = search needs
+shared-slice-read-t5 : tie.Need-shared-slice-read-t5
+shared-slice-read-t5 c = search needs
 
-shared-slice-read-t6 : tie.Need-shared-slice-read-t6
-shared-slice-read-t6 c = search needs
+shared-slice-read-t7 : tie.Need-shared-slice-read-t7
+shared-slice-read-t7 c = search needs
 
-shared-slice-read-t8 : tie.Need-shared-slice-read-t8
-shared-slice-read-t8 c = search needs
+shared-slice-read-t9 : tie.Need-shared-slice-read-t9
+shared-slice-read-t9 c = search needs
 
-shared-slice-read-t10 : tie.Need-shared-slice-read-t10
-shared-slice-read-t10 c = search needs
+shared-slice-read-t11 : tie.Need-shared-slice-read-t11
+shared-slice-read-t11 c = search needs
 
 two-at-requires-2 : tie.Need-two-at-requires-2
 two-at-requires-2 c κs = search needs
 
-shared-slice-read-t14 : tie.Need-shared-slice-read-t14
-shared-slice-read-t14 c = search needs
+shared-slice-read-t15 : tie.Need-shared-slice-read-t15
+shared-slice-read-t15 c = search needs
 
-shared-slice-read-t17 : tie.Need-shared-slice-read-t17
-shared-slice-read-t17 c = search needs
+shared-slice-read-t18 : tie.Need-shared-slice-read-t18
+shared-slice-read-t18 c = search needs
 
-shared-slice-read-t19 : tie.Need-shared-slice-read-t19
-shared-slice-read-t19 c = search needs
+shared-slice-read-t20 : tie.Need-shared-slice-read-t20
+shared-slice-read-t20 c = search needs
 
-shared-slice-read-t22 : tie.Need-shared-slice-read-t22
-shared-slice-read-t22 c = search needs
+shared-slice-read-t23 : tie.Need-shared-slice-read-t23
+shared-slice-read-t23 c = search needs
 
 four-at-requires : tie.Need-four-at-requires
 four-at-requires c κs = search needs
@@ -59,11 +59,11 @@ three-at-requires-4 c κs = search needs
 three-at-requires-5 : tie.Need-three-at-requires-5
 three-at-requires-5 c κs = search needs
 
-shared-slice-read-t32 : tie.Need-shared-slice-read-t32
-shared-slice-read-t32 c = search needs
+shared-slice-read-t33 : tie.Need-shared-slice-read-t33
+shared-slice-read-t33 c = search needs
 
-shared-slice-read-t34 : tie.Need-shared-slice-read-t34
-shared-slice-read-t34 c = search needs
+shared-slice-read-t35 : tie.Need-shared-slice-read-t35
+shared-slice-read-t35 c = search needs
 
 returns : tie.Need-returns
 returns c =
@@ -78,7 +78,7 @@ returns c =
     let band = watts .before .before .before .before .before in
     let id = band .before .before .before .before .before in
     let start = id .before .before in
-    status-at (start .args .d .now) (start .pre .0) (start .pre .1)
+    status-at (start .args .comma) (start .args .d .now) (start .pre .0) (start .pre .1)
     (id .two-at .ensures) (band .two-at2 .ensures)
     (watts .four-at .ensures) (swratu .four-at2 .ensures) (swrant .four-at3 .ensures)
     (volts .three-at .ensures) (amperes .three-at2 .ensures) (upper .three-at3 .ensures) (lower .three-at4 .ensures) (combiner .three-at5 .ensures)
@@ -88,15 +88,15 @@ read-values-spec =
     tie.close
     (tie.spec
     two-at-requires
-    shared-slice-read-t4
-    shared-slice-read-t6
-    shared-slice-read-t8
-    shared-slice-read-t10
+    shared-slice-read-t5
+    shared-slice-read-t7
+    shared-slice-read-t9
+    shared-slice-read-t11
     two-at-requires-2
-    shared-slice-read-t14
-    shared-slice-read-t17
-    shared-slice-read-t19
-    shared-slice-read-t22
+    shared-slice-read-t15
+    shared-slice-read-t18
+    shared-slice-read-t20
+    shared-slice-read-t23
     four-at-requires
     four-at-requires-2
     four-at-requires-3
@@ -105,6 +105,6 @@ read-values-spec =
     three-at-requires-3
     three-at-requires-4
     three-at-requires-5
-    shared-slice-read-t32
-    shared-slice-read-t34
+    shared-slice-read-t33
+    shared-slice-read-t35
     returns)

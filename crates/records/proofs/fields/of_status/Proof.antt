@@ -41,6 +41,9 @@ cast-t12 c = let known = c .struct-known11 .given .1 .1 .1 .1 .1 .1 .1 .1 .1 .1 
 cast-t13 : tie.Need-cast-t13
 cast-t13 c = let known = c .struct-known12 .given .1 .1 .1 .1 .1 .1 .1 .1 .1 .1 in omega arith
 
+cast-t14 : tie.Need-cast-t14
+cast-t14 c = let known = c .struct-known13 .given .1 .1 .1 .1 .1 .1 .1 .1 .1 .1 in omega arith
+
 returns : tie.Need-returns
 returns c = search needs
 
@@ -60,4 +63,5 @@ of-status-spec =
     cast-t11
     cast-t12
     cast-t13
+    cast-t14
     returns)

@@ -19,7 +19,7 @@ use Rattle.records.proofs.told.with_numbers.Statement.{statement}
 use Rattle.records.proofs.told.with_numbers.Tie as tie
 
 abbrev zeros : List ℤ
-zeros = replicate 20 (pos 0)
+zeros = replicate 21 (pos 0)
 
 abbrev Inv-loop : tie.InvT-loop
 Inv-loop kind numbers values₀ i₀ values i = (i ≤ length numbers) × (values ≡ over zeros (map pos numbers) i)

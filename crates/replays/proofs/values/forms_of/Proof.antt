@@ -14,7 +14,7 @@ use Rattle.replays.proofs.values.forms_of.Statement.{statement}
 use Rattle.replays.proofs.values.forms_of.Tie as tie
 
 -- all fields of the other kinds are numbers
-numbers : (k : Kind) → OneOf (0 ∷ 2 ∷ 3 ∷ []) (tagOf the-type k) → replicate 20 78 ≡ formsOf k
+numbers : (k : Kind) → OneOf (0 ∷ 2 ∷ 3 ∷ []) (tagOf the-type k) → replicate 21 78 ≡ formsOf k
 unfolding formsOf
 numbers (OfAck c) keys = refl
 numbers OfStatus keys = absurd (miss (0 ∷ 2 ∷ 3 ∷ []) 1 tt keys)

@@ -13,7 +13,7 @@ use Rattle.row_writer.proofs.given.is_status_row.Tie as tie
 
 returns : tie.Need-returns
 unfolding isStatusRow
-returns c = rw (lt-leb 20 (length (c .before .args .values .now)) (c .if1 .taken))
+returns c = rw (lt-leb 21 (length (c .before .args .values .now)) (c .if1 .taken))
 
 slice-aggregate-fit : tie.Need-slice-aggregate-fit
 slice-aggregate-fit c = sym (length-take-le 10 (c .before .before .args .values .now) (omega arith))
@@ -49,7 +49,7 @@ returns-2 : tie.Need-returns-2
 unfolding isStatusRow
 returns-2 c =
     let t = c .before .before .before .before .before .before in
-    rw (le-leb 20 (length (t .before .args .values .now)) (t .if1 .left))
+    rw (le-leb 21 (length (t .before .args .values .now)) (t .if1 .left))
     (ap₂ _&&_ (ap₂ _&&_ (c .before .before .before .before .fit .ensures) (c .before .before .fit2 .ensures)) (c .fit3 .ensures))
 
 pub is-status-row-spec : {M : Type 1} → statement M

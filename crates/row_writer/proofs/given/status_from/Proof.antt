@@ -65,10 +65,14 @@ byte-at-requires-11 c κs = search needs
 byte-at-requires-12 : tie.Need-byte-at-requires-12
 byte-at-requires-12 c κs = search needs
 
+byte-at-requires-13 : tie.Need-byte-at-requires-13
+byte-at-requires-13 c κs = search needs
+
 returns : tie.Need-returns
 unfolding statusFrom
 returns c =
-    let front = c .before .before .before .before .before .before .before .before .before .before in
+    let rest = c .before in
+    let front = rest .before .before .before .before .before .before .before .before .before .before in
     λ i. record {
       id = front .before .before .before .before .before .before .before .before .before .byte-at .ensures i;
       state = front .before .before .before .before .before .before .before .before .byte-at2 .ensures i;
@@ -80,16 +84,17 @@ returns c =
       tuner = front .before .before .byte-at8 .ensures i;
       receive = front .before .byte-at9 .ensures i;
       level = front .byte-at10 .ensures i;
-      watts = c .before .before .before .before .before .before .before .before .before .word-at .ensures i;
-      swratu = c .before .before .before .before .before .before .before .before .word-at2 .ensures i;
-      swrant = c .before .before .before .before .before .before .before .word-at3 .ensures i;
-      volts = c .before .before .before .before .before .before .word-at4 .ensures i;
-      amperes = c .before .before .before .before .before .word-at5 .ensures i;
-      upper = c .before .before .before .before .word-at6 .ensures i;
-      lower = c .before .before .before .word-at7 .ensures i;
-      combiner = c .before .before .word-at8 .ensures i;
-      warning = c .before .byte-at11 .ensures i;
-      alarm = c .byte-at12 .ensures i;
+      watts = rest .before .before .before .before .before .before .before .before .before .word-at .ensures i;
+      swratu = rest .before .before .before .before .before .before .before .before .word-at2 .ensures i;
+      swrant = rest .before .before .before .before .before .before .before .word-at3 .ensures i;
+      volts = rest .before .before .before .before .before .before .word-at4 .ensures i;
+      amperes = rest .before .before .before .before .before .word-at5 .ensures i;
+      upper = rest .before .before .before .before .word-at6 .ensures i;
+      lower = rest .before .before .before .word-at7 .ensures i;
+      combiner = rest .before .before .word-at8 .ensures i;
+      warning = rest .before .byte-at11 .ensures i;
+      alarm = rest .byte-at12 .ensures i;
+      comma = c .byte-at13 .ensures i;
     }
 
 pub status-from-spec : {M : Type 1} → statement M
@@ -116,4 +121,5 @@ status-from-spec =
     word-at-requires-8
     byte-at-requires-11
     byte-at-requires-12
+    byte-at-requires-13
     returns)

@@ -74,7 +74,7 @@ four-there c = omega arith
 
 module _ (c : tie.After-bytes-needed) where
   abbrev found : tie.Else6
-  found = c .before .before .before
+  found = c .before .before
 
   abbrev k : tie.After-mark-of
   k = from-three found
@@ -83,9 +83,9 @@ module _ (c : tie.After-bytes-needed) where
   declared = c .bytes-needed .result
 
   there : 4 ≤ length (bytes k)
-  there = four-there (c .before .before)
+  there = four-there (c .before)
 
-  is-declared : needs (family k) (getD (bytes k) 3 0) ≡ declared
+  is-declared : needs (family k) (bytes k) ≡ declared
   is-declared = sym (c .bytes-needed .ensures)
 
   not-allowed : declared ≡ 0 → Bad 4 ≡ seen (family k) (bytes k)
@@ -141,9 +141,6 @@ returns-6 c =
 returns-7 : tie.Need-returns-7
 returns-7 c = ended (from-three (c .before)) 3 (c .if7 .taken) (omega arith) (three (c .before))
 
-shared-slice-read-bytes-needed : tie.Need-shared-slice-read-bytes-needed
-shared-slice-read-bytes-needed c = search kit
-
 bytes-needed-requires : tie.Need-bytes-needed-requires
 bytes-needed-requires c κs = search kit
 
@@ -171,7 +168,6 @@ examine-packet-spec =
     shared-slice-read-if6
     returns-6
     returns-7
-    shared-slice-read-bytes-needed
     bytes-needed-requires
     returns-8
     returns-9

@@ -2,13 +2,14 @@
 -- Assumes nothing.
 use Prim.Native.Nat.{ℕ}
 use mathlib.Core.Path.{_≡_, sym, ap, _∙_}
-use mathlib.Core.Bool.{Bool, true, false, _&&_, and-assoc}
+use mathlib.Core.Bool.{Bool, true, false, _&&_, and-assoc, and-true}
 use mathlib.Core.List.{List}
 use borrow.Author.Needs.{needs}
-use borrow.Author.Tests.{not-true, not-false}
+use borrow.Author.Tests.{not-true, not-false, le-leb}
 use lib.ListN.{length}
 use Rattle.rules.specs.Bytes.{same}
-use Rattle.rules.specs.Status.{dataOf, joined, cut, widths, readable, statusInRange, statusOf, isStatus}
+use Rattle.rules.specs.Status.{commaIn, dataOf, joined, cut, widths, readable, fieldsInRange, statusInRange, statusOf, statusIn, isStatus}
+use Rattle.frame_laws.proofs.Comma.{at-most-one}
 use Rattle.spe.specs.ReportTests.{dataGood}
 use Rattle.spe.proofs.ReportFrames.{framed, framed-data}
 use Rattle.spe.proofs.status.is_status.Statement.{statement}
@@ -17,13 +18,18 @@ use Rattle.spe.proofs.status.is_status.Tie as tie
 grouped : (a b c d : Bool) → (a && b && c && d) ≡ (a && (b && c && d))
 grouped a b c d = simp and-assoc
 
+-- the record of some bytes has one of the two forms, so it is in range by its fields
+in-range : (s : List ℕ) → statusInRange (statusIn s) ≡ fieldsInRange (statusOf 0 (dataOf s))
+unfolding statusInRange fieldsInRange statusOf
+in-range s = rw (le-leb (commaIn s) 1 (at-most-one s)) (and-true (fieldsInRange (statusIn s)))
+
 -- by the test of the frame
 by-frame : (s : List ℕ) (b : Bool) → framed s ≡ b → isStatus s ≡ (b && dataGood (dataOf s))
 unfolding isStatus dataGood
 by-frame s b e =
     let d = dataOf s in
-    ap (λ x. x && same d (joined (cut 0 widths d)) && readable d && statusInRange (statusOf d)) e
-    ∙ grouped b (same d (joined (cut 0 widths d))) (readable d) (statusInRange (statusOf d))
+    (λ i. e i && same d (joined (cut 0 widths d)) && readable d && in-range s i)
+    ∙ grouped b (same d (joined (cut 0 widths d))) (readable d) (fieldsInRange (statusOf 0 d))
 
 is-report-requires : tie.Need-is-report-requires
 is-report-requires c κs = search needs

@@ -13,6 +13,7 @@ use Rattle.stream_laws.proofs.States.{longest-fits}
 use Rattle.pens.specs.Pens.{laid as laidAt}
 use Rattle.held_bytes.proofs.Appending.{at-front, front-long, still-133}
 use Rattle.held_bytes.proofs.Keeping.{part-of-front}
+use Rattle.rows.specs.Rows.{longestRow}
 use Rattle.row_stream.specs.Short.{IsFew}
 use Rattle.search.specs.declared.Stop.{Stop}
 use Rattle.row_stream.proofs.Few.{FewAt, few-at}
@@ -52,7 +53,7 @@ module _ (t : tie.After-text) where
   long : length places ≡ 133
   long = start .pre .1 .places
 
-  room : 26 ≤ length numbers
+  room : longestRow ≤ length numbers
   room = start .pre .1 .row
 
   there : count ≤ length places

@@ -1,4 +1,4 @@
--- `row_stream::short_ways::front::front_reply` meets its contract: the bytes that the count needs are a good frame, and
+-- `row_stream::short_ways::front::front_reply` meets its contract: the bytes that the start needs are a good frame, and
 -- its row is laid.
 -- Assumes nothing.
 use Prim.Native.Nat.{ℕ, _≤_}
@@ -6,7 +6,7 @@ use mathlib.Core.Path.{_≡_, sym, ap, subst, _∙_}
 use mathlib.Core.List.{List}
 use native.Mathlib.Omega.{arith}
 use lib.IntN.{ℤ}
-use lib.ListN.{length, take, getD}
+use lib.ListN.{length, take}
 use lib.Seq.{length-take-le}
 use Rattle.stream_laws.proofs.PacketStarts.{needs-longest}
 use Rattle.rows.specs.Rows.{row, front}
@@ -17,18 +17,15 @@ use borrow.Author.Needs.{needs}
 use Rattle.row_stream.proofs.short_ways.front.front_reply.Statement.{statement}
 use Rattle.row_stream.proofs.short_ways.front.front_reply.Tie as tie
 
--- as many bytes as the count needs are there
-there : (c : tie.Else2) → c .before .bytes-needed .result ≤ length (c .before .before .before .before .before .args .offered .now)
-there c = omega (arith, c .before .bytes-needed .ensures, needs-longest 1 (getD (c .before .before .before .before .before .args .offered .now) 3 0), c .before .before .before .if1 .left)
+-- as many bytes as the start needs are there
+there : (c : tie.Else2) → c .before .bytes-needed .result ≤ length (c .before .before .before .before .args .offered .now)
+there c = omega (arith, c .before .bytes-needed .ensures, needs-longest 1 (c .before .before .before .before .args .offered .now), c .before .before .if1 .left)
 
-long-enough : (c : tie.Else2) → length (take (c .before .bytes-needed .result) (c .before .before .before .before .before .args .offered .now)) ≡ c .before .bytes-needed .result
-long-enough c = length-take-le (c .before .bytes-needed .result) (c .before .before .before .before .before .args .offered .now) (there c)
+long-enough : (c : tie.Else2) → length (take (c .before .bytes-needed .result) (c .before .before .before .before .args .offered .now)) ≡ c .before .bytes-needed .result
+long-enough c = length-take-le (c .before .bytes-needed .result) (c .before .before .before .before .args .offered .now) (there c)
 
 returns : tie.Need-returns
 returns c = nothing-there _ _ _ _ _ _
-
-shared-slice-read-bytes-needed : tie.Need-shared-slice-read-bytes-needed
-shared-slice-read-bytes-needed c = search needs
 
 bytes-needed-requires : tie.Need-bytes-needed-requires
 bytes-needed-requires c κs = search needs
@@ -47,7 +44,7 @@ same-length c = search needs
 
 returns-3 : tie.Need-returns-3
 returns-3 c =
-    let start = c .before .before .before .before .before .before .before .before .before .before in
+    let start = c .before .before .before .before .before .before .before .before .before in
     let a = start .args in
     let none = was-none _ _ _ _ _ _ _ _ (c .before .before .read-row .ensures) (c .if3 .taken) (start .pre .row) in
     subst (λ (l : List ℤ). FrontRow 1 (a .at) (a .skipped) (a .offered .now) (a .held .now) (a .numbers .now) 0 (a .held .now) l) (sym (none .1)) (nothing-there _ _ _ _ _ _)
@@ -60,7 +57,7 @@ same-length-2 c = search needs
 
 returns-4 : tie.Need-returns-4
 returns-4 c =
-    let start = c .before .before .before .before .before .before .before .before .before .before .before .before in
+    let start = c .before .before .before .before .before .before .before .before .before .before .before in
     let a = start .args in
     let whole = c .before .before .before .before .before .before .before in
     let n = whole .before .bytes-needed .result in
@@ -74,7 +71,6 @@ front-reply-spec =
     tie.close
     (tie.spec
     returns
-    shared-slice-read-bytes-needed
     bytes-needed-requires
     returns-2
     slice-aggregate-read-row

@@ -13,7 +13,7 @@ use Rattle.rules.specs.declared.Frame.{Frame}
 use Rattle.rules.specs.declared.Reading.the-variants.{Good}
 use Rattle.stream_rules.specs.Heads.{headOf}
 use Rattle.stream_laws.proofs.Course.{headOf-bad}
-use Rattle.rows.specs.Rows.{row, rowWithout, front}
+use Rattle.rows.specs.Rows.{longestRow, row, rowWithout, front}
 use Rattle.search.specs.Sought.{soughtIn, Stops}
 use Rattle.row_stream.specs.RowSought.{stopOf, rowOf}
 use Rattle.search.specs.declared.Sought.{Sought}
@@ -64,7 +64,7 @@ module _ (c : tie.Then1 Inv-loop μ-loop) where
   long-enough : length bytes ≡ stop .length
   long-enough = ap length the-part ∙ length-take-le (stop .length) (drop (stop .at) s) (omega (arith, there, length-drop (stop .at) s))
 
-  room : 26 ≤ length (loop .loop .numbers)
+  room : longestRow ≤ length (loop .loop .numbers)
   room = omega (arith, start .pre .1 .row, ap length (loop .loop .inv .1))
 
 -- what was read there, of which the search knows how it stands to the rules
