@@ -9,7 +9,7 @@ use Rattle.rules.specs.Bytes.{ascii, oneOf, between, every, same, first,
 use Rattle.rules.specs.Numbers.{isDigit, decimal, padded, paddedNumber, pointed, pointedNumber, withZeros, withSpaces, withPoint}
 use Rattle.rules.specs.declared.Status.{Status}
 
--- A report has 75 bytes, of which 67 are its data; with a comma before its line end it has 76.
+-- A report has 75 bytes, of which 67 are its data; with the comma before its line end that document 02 adds ([3]), 76.
 abbrev pub reportLength : ℕ
 reportLength = 75
 
@@ -19,7 +19,8 @@ longestReport = 76
 abbrev pub dataLength : ℕ
 dataLength = 67
 
--- The two forms are told apart by the byte behind the checksum alone: 1 where a comma stands there, else 0.
+-- The two forms are told apart by the byte behind the checksum alone: 1 where a comma stands there, else 0. Before it are
+-- the marks, the count, the data and two check bytes.
 abbrev pub behindChecksum : ℕ
 behindChecksum = 73
 
@@ -133,7 +134,7 @@ fieldsInRange s =
     && oneOf warnings (s .warning)
     && oneOf alarms (s .alarm)
 
--- Their values, and one of the two forms.
+-- All of them, and one of the two forms: a record that says neither is out of range.
 unfoldable pub statusInRange : Status → Bool
 statusInRange s = fieldsInRange s && leb (s .comma) 1
 
