@@ -27,7 +27,7 @@ extern "C" {
 enum {
     AMP_NO_FAMILY = 1,      /* the family is not 1, 2 or 3 */
     AMP_NO_CODE = 2,        /* a command or an acknowledgement cannot carry this code */
-    AMP_NO_RECORD = 3,      /* a value does not fit its field, or there is no such kind */
+    AMP_NO_RECORD = 3,      /* a value does not fit its place, or there is no such kind */
     AMP_NO_ROOM = 4,        /* the lent output, list or row is shorter than the answer */
     AMP_CLOSED = 5,         /* bytes were offered to a closed reader */
     AMP_HOLDS_TOO_MUCH = 6, /* the reader's state claims more held bytes than its family can hold */

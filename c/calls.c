@@ -342,15 +342,15 @@ static void writing(void)
     does_not_write("code 10D", AMP_ACK, 0x10D, values_5, 0, 6, AMP_NO_CODE);
     does_not_write("no code before no room", AMP_ACK, 0, values_5, 0, 0, AMP_NO_CODE);
     does_not_write("no room", AMP_ACK, 0x0D, values_5, 0, 5, AMP_NO_ROOM);
-    does_not_write("no room for a report", AMP_STATUS, 0, values_5, 21, 74, AMP_NO_ROOM);
-    does_not_write("no room for a comma", AMP_STATUS, 0, comma_5, 21, 75, AMP_NO_ROOM);
-    does_not_write("too few values", AMP_STATUS, 0, values_5, 20, 160, AMP_NO_RECORD);
-    does_not_write("too few values before no room", AMP_STATUS, 0, comma_5, 20, 0, AMP_NO_RECORD);
+    does_not_write("no room for a report", AMP_STATUS, 0, values_5, AMP_STATUS_VALUES, 74, AMP_NO_ROOM);
+    does_not_write("no room for a comma", AMP_STATUS, 0, comma_5, AMP_STATUS_VALUES, 75, AMP_NO_ROOM);
+    does_not_write("too few values", AMP_STATUS, 0, values_5, AMP_STATUS_VALUES - 1, 160, AMP_NO_RECORD);
+    does_not_write("too few values before no room", AMP_STATUS, 0, comma_5, AMP_STATUS_VALUES - 1, 0, AMP_NO_RECORD);
     does_not_write("not those of a report", AMP_STATUS, 0, values_02, 13, 160, AMP_NO_RECORD);
     does_not_write("sentence 11", AMP_SENTENCE, 11, values_02, 13, 160, AMP_NO_RECORD);
-    does_not_write("kind 0", 0, 0, values_5, 21, 160, AMP_NO_RECORD);
-    does_not_write("kind more wanted", AMP_MORE, 0, values_5, 21, 160, AMP_NO_RECORD);
-    does_not_write("no record before no room", AMP_SENTENCE, 2, values_5, 21, 0, AMP_NO_RECORD);
+    does_not_write("kind 0", 0, 0, values_5, AMP_STATUS_VALUES, 160, AMP_NO_RECORD);
+    does_not_write("kind more wanted", AMP_MORE, 0, values_5, AMP_STATUS_VALUES, 160, AMP_NO_RECORD);
+    does_not_write("no record before no room", AMP_SENTENCE, 2, values_5, AMP_STATUS_VALUES, 0, AMP_NO_RECORD);
 }
 
 /* A value over its field, one below 0, and one that 32 bits would cut to a good one. */

@@ -351,11 +351,14 @@ static void judge_written(const int64_t *row, const uint8_t *out, size_t length)
     EXPECT(memcmp(back + AMP_VALUES, row + AMP_VALUES, values_of(kind, code) * sizeof *row) == 0);
 }
 
+/* More values than any kind has, so that some stand behind those that are looked at. */
+#define MOST_VALUES (AMP_STATUS_VALUES + 6)
+
 static void try_write(void)
 {
-    size_t many = once_in(6) ? some_below(27) : AMP_STATUS_VALUES;
+    size_t many = once_in(6) ? some_below(MOST_VALUES) : AMP_STATUS_VALUES;
     size_t room = once_in(4) ? some_below(77) : 75 + some_below(20);
-    int64_t row[AMP_VALUES + 27], *values;
+    int64_t row[AMP_VALUES + MOST_VALUES], *values;
     uint32_t number;
     size_t *length;
     uint8_t *out;

@@ -6,6 +6,7 @@ use crate::calls::{Call, Lent, Outcome};
 use crate::frames::{frame_at_front, written, Family, Frame, LONGEST_INPUT};
 use crate::listing::list_frames;
 use crate::rows::{bare_row, frame_of, frame_row, Found};
+use crate::spe;
 use crate::stream::{Answer, Reader};
 
 /// The three bytes that enable the Alpha.
@@ -58,7 +59,7 @@ pub fn family_of(number: u32) -> Result<Family, u32> {
 /// A reader waits for the last byte of its longest frame at most.
 pub fn most_held(family: Family) -> usize {
     match family {
-        Family::SpeReplies => 75,
+        Family::SpeReplies => spe::COMMA_LENGTH - 1,
         Family::Alpha => 133,
         Family::SpeCommands => 5,
     }

@@ -9,10 +9,10 @@ use crate::make_comma::RECORDED;
 use crate::pieces;
 use crate::rng::Rng;
 use crate::rows::{entry_of, Entry};
-use crate::spe::{enclose_data, PLAIN_LENGTH};
+use crate::spe::{enclose_data, COMMA_LENGTH, HOST_MARK};
 
 /// Room for the longest frame that can be written, and more.
-const ROOM: usize = PLAIN_LENGTH + 65;
+const ROOM: usize = COMMA_LENGTH + 64;
 
 /// Numbers beside the ends of some value's range, and where a number of fewer
 /// bits would turn over.
@@ -77,7 +77,7 @@ fn samples() -> Vec<Entry> {
 fn entry(frame: &[u8]) -> Entry {
     let family = match frame[0] {
         b'$' => Family::Alpha,
-        0x55 => Family::SpeCommands,
+        HOST_MARK => Family::SpeCommands,
         _ => Family::SpeReplies,
     };
     let (frame, _) = frame_at_front(family, frame).expect("a sample is good");

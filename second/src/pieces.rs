@@ -7,7 +7,7 @@ use crate::frames::Family;
 use crate::rng::Rng;
 use crate::spe::{check_bytes, enclose_data, needed_bytes, write_code};
 use crate::spe::{AMPLIFIER_MARK, BEHIND_CHECK, CODE_COUNT, HOST_MARK};
-use crate::spe::{PLAIN_LENGTH, STATUS_COUNT, STATUS_DATA};
+use crate::spe::{COMMA_LENGTH, PLAIN_LENGTH, STATUS_COUNT, STATUS_DATA};
 use crate::{make_alpha, make_comma, make_spe};
 
 /// A stream of at least `length` bytes, longer by no more than two pieces.
@@ -86,7 +86,7 @@ pub fn row_of_ends(family: Family, rng: &mut Rng) -> Vec<u8> {
 
 pub fn between_ends(family: Family, rng: &mut Rng) -> Vec<u8> {
     match rng.below(3) {
-        0 => vec![0; PLAIN_LENGTH + 1],
+        0 => vec![0; COMMA_LENGTH],
         1 => sound_frame(family, rng),
         _ => Vec::new(),
     }

@@ -11,7 +11,7 @@ use crate::spe::{check_bytes, enclose_data};
 use crate::stream::{Answer, Reader};
 use crate::{make_alpha, make_spe, pieces};
 
-pub const FAMILIES: [Family; 3] = [Family::SpeReplies, Family::Alpha, Family::SpeCommands];
+const FAMILIES: [Family; 3] = [Family::SpeReplies, Family::Alpha, Family::SpeCommands];
 pub const CASE_2: &[u8] = b"\xAA\xAA\xAA\x01\x0D\x0D\xAA\xAA\xAA\x01\x09\x09";
 pub const CASE_5: &[u8] = b",20K,S,R,x,2,03,2t,0r,M,0000, 0.00, 0.00, 0.0, 0.0, 31, 29, 30,N,N,";
 const CASE_7: &[u8] = b"$APA05,11,18,1B,34,00,2A,01*A844";

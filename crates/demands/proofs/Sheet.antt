@@ -1,4 +1,4 @@
--- The bench sheet's cases 1 to 11, and what some answers say: each is computed from the definitions.
+-- The bench sheet's cases 1 to 11, those of the comma, and what some answers say: each is computed from the definitions.
 -- Assumes nothing.
 use mathlib.Core.Path.{refl}
 use Rattle.rules.specs.Bytes.{total, oneOf, every, same}
@@ -27,6 +27,7 @@ sheet = record {
   case4-on-again = refl;
   case4-comma = refl;
   case4-comma-on = refl;
+  case4-comma-on-again = refl;
   cut = refl;
   cut-closed = refl;
   cut-begun = refl;

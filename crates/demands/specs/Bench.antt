@@ -170,9 +170,10 @@ pub record BenchSheet : Type 0 where
   -- With 59 zero bytes more, which make 75, the first comes; and the second before another byte is taken.
   pub case4-on : on4 .answer ≡ acknowledged 59 4 4 0x0D
   pub case4-on-again : on4-again .answer ≡ acknowledged 0 10 0 0x09
-  -- With the comma of [3] in the 74th place they come once byte 76 is taken.
+  -- With the comma of document 02, [3], in the 74th place they come once byte 76 is taken, and before another is.
   pub case4-comma : comma4 .answer ≡ More 75
   pub case4-comma-on : onComma4 .answer ≡ acknowledged 1 4 4 0x0D
+  pub case4-comma-on-again : fed (onComma4 .reader) (replicate 1 0) .answer ≡ acknowledged 0 10 0 0x09
   -- A report with the comma, cut before its last byte: nothing is handed out on its 75 bytes, nor at close.
   pub cut : firstCut .answer ≡ More 75
   pub cut-closed : closedCut .answer ≡ Done 0

@@ -1,7 +1,8 @@
 -- A status report written and read back: its texts have the widths of the fields, so that the data is cut into the same
 -- texts again, and each of them is read as the number or letter it was written for.
--- The laws of numbers in fields say so text by text; the ranges of the record give their bounds. Assumes nothing.
-use Prim.Native.Nat.{ℕ, suc, _+_, _-_, _/_, _%_, _≤_, _<_}
+-- The laws of numbers in fields say so text by text; the ranges of the record give their bounds, and its form is one of the
+-- two, which its line end shows. Assumes nothing.
+use Prim.Native.Nat.{ℕ, suc, _+_, _-_, _/_, _≤_, _<_}
 use Prim.Native.Char.{code}
 use mathlib.Core.Path.{_≡_, refl, ap, ap₂, _∙_}
 use mathlib.Core.Bool.{Bool, true, false, cond}

@@ -2,7 +2,7 @@
 -- written, and what was read gives its own bytes if, and only if, it stood in the writer's form.
 -- A packet is decided by its six bytes; the report's part stands in `Report` and `Form`. Assumes nothing.
 use Prim.Native.Nat.{ℕ}
-use mathlib.Core.Path.{_≡_, refl, sym, ap, _∙_}
+use mathlib.Core.Path.{_≡_, refl, sym, ap}
 use mathlib.Core.Bool.{true, false}
 use mathlib.Core.List.{List}
 use mathlib.Core.Logic.{_↔_, ⊎-elim}

@@ -11,7 +11,7 @@ ghost use Prim.Native.Nat.{_≤_};
 ghost use Rattle.lines.specs.Lines.{Types};
 ghost use Rattle.replays.specs.Texts.{signedTexts, letterOf, fieldTexts, formsOf, shownTexts};
 
-// The forms of a status report's fields: a number, that of a model, a letter, and a letter joined to what stands before it.
+// The forms of a status report's values: a number, that of a model, a letter, and a letter joined to what stands before it.
 const STATUS_FORMS: [u8; VALUE_PLACES] = [
     b'K',
     b'L',
@@ -36,7 +36,7 @@ const STATUS_FORMS: [u8; VALUE_PLACES] = [
     b'N',
 ];
 
-// The forms of the fields of a kind of frame.
+// The forms of the values of a kind of frame.
 pub(crate) fn forms_of(kind: Kind) -> [u8; VALUE_PLACES]
     ensures { λ r. ⌜ r ≡ formsOf kind ⌝ }
 {

@@ -19,8 +19,8 @@ pub struct Counts {
     pub skipped: u32,
 }
 
-// Any call, by its answer. Where it is refused, or the row has no room, all is as it was. (Every row has room
-// in 27 places; only with fewer are the held places kept, to be put back.)
+// Any call, by its answer. Where it is refused, or the row has no room, all is as it was. (Only with
+// fewer places than the longest row has are the held places kept, to be put back.)
 pub(crate) fn feed_any(
     family: u8,
     closed: u8,

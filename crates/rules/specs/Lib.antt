@@ -1,4 +1,5 @@
--- The rules of document 01, in its order. `Bytes` has the words that all of them use.
+-- The rules of document 01, in its order, with what [3] of document 02 adds to reports. `Bytes` has the words that all of them
+-- use.
 pub mod Bytes
 pub mod Numbers
 pub mod Codes

@@ -14,7 +14,7 @@ abbrev pub reportLength : ℕ
 reportLength = 75
 
 abbrev pub longestReport : ℕ
-longestReport = 76
+longestReport = reportLength + 1
 
 abbrev pub dataLength : ℕ
 dataLength = 67

@@ -1,6 +1,6 @@
 // What is read and written: the records of the three families, the frame that holds one of them,
 // and the answers of a reader and of a writer. The rules for them stand in specs/. Also the numbers of
-// document 01 that more than one room needs, each here once.
+// documents 01 and 02 that more than one room needs, each here once.
 
 // The families: replies of an SPE amplifier, sentences of the Alpha 9500, commands to an SPE amplifier.
 pub const REPLIES: u8 = 1;
@@ -45,6 +45,9 @@ pub const REPORT_LENGTH: usize = 75;
 pub const LONGEST_REPORT: usize = REPORT_LENGTH + 1;
 
 pub const DATA_LENGTH: usize = 67;
+
+// where the byte behind a report's checksum stands, which tells its form
+pub const BEHIND_CHECKSUM: usize = REPORT_LENGTH - 2;
 
 // The longest payload of a sentence, and the shortest and the longest sentence: with `$`, `*` and four digits.
 pub const LONGEST_PAYLOAD: usize = 128;

@@ -106,7 +106,7 @@ module _ (family : ℕ) (bs : List ℕ) where
       )
 
 -- Of an SPE family: k marks and nothing more, k below four, is undecided; a start that fewer than six bytes settle is bad,
--- since no count needs so few; the length is what the count needs, and no whole frame is shorter than a packet with a code.
+-- since no start needs so few; the length is what it needs, and no whole frame is shorter than a packet with a code.
 module _ (family : ℕ) (spe : isSpe family ≡ true) (bs : List ℕ) where
   pub few : (k : ℕ) → length bs ≡ k → k < 4 → Marks family k bs → Undecided ≡ seen family bs
   few k e h m = undecided family bs (few-marks family spe bs (omega arith) (subst⁻¹ (λ (n : ℕ). Marks family n bs) e m))

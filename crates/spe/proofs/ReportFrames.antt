@@ -9,14 +9,14 @@ use native.Mathlib.Omega.{arith}
 use borrow.Author.Tests.{le-leb}
 use lib.Dec.{eqb, leb}
 use lib.ListN.{length, take, drop, getD, length-drop, take-append-drop}
-use lib.Seq.{length-take-le, getD-take, drop-drop}
-use Rattle.rules.specs.Bytes.{same, total}
+use lib.Seq.{take-all, length-take-le, getD-take, drop-drop}
+use Rattle.rules.specs.Bytes.{same, part, total}
 use Rattle.rules.specs.Status.{reportLengthIn, commaIn, lineEnd, statusFrame, dataOf, joined, cut, widths, readable, statusInRange, statusIn, isStatus}
 use Rattle.frame_laws.proofs.Bytes.{same-eq}
-use Rattle.frame_laws.proofs.Comma.{at-most-one, comma-in-front, report-length}
+use Rattle.frame_laws.proofs.Comma.{comma-in-front, report-length}
 use Rattle.frame_laws.proofs.Comma as comma
 use Rattle.spe.specs.Ends.{beginsReport, endsReport}
-use Rattle.frame_laws.proofs.Lists.{lengths-differ, next, last, same-front}
+use Rattle.frame_laws.proofs.Lists.{lengths-differ, next, part-elements, same-front}
 
 abbrev pub framed : List ℕ → Bool
 framed s = same s (statusFrame (commaIn s) (dataOf s))
@@ -64,24 +64,28 @@ by-parts s h =
     ap (λ (l : List ℕ). same l (statusFrame (commaIn s) (dataOf s))) (parted s h)
     ∙ rw (same-front (dataOf s)) (simp and-assoc (rw (swapped (eqb (getD s 71 0) (total (dataOf s) % 256)))))
 
--- The line end has a comma before it or not.
-abbrev ends : List ℕ → ℕ → Bool
-ends s c = eqb (getD s (73 + c) 0) 0x0D && eqb (getD s (74 + c) 0) 0x0A
+-- The line end, byte by byte: the comma is there where it was seen.
+abbrev pub lineEnds : List ℕ → ℕ → Bool
+lineEnds s c = eqb (getD s (73 + c) 0) 0x0D && eqb (getD s (74 + c) 0) 0x0A
 
-by-line-end : (s : List ℕ) → length s ≡ reportLengthIn s → same (drop 73 s) (lineEnd (commaIn s)) ≡ ends s (commaIn s)
+pub by-bytes : (s : List ℕ) → reportLengthIn s ≤ length s → same (part 73 (2 + commaIn s) s) (lineEnd (commaIn s)) ≡ lineEnds s (commaIn s)
 unfolding same commaIn
-by-line-end s = go (eqb (getD s 73 0) 44) refl
+by-bytes s = go (eqb (getD s 73 0) 44) refl
   where
-    go : (b : Bool) → eqb (getD s 73 0) 44 ≡ b → length s ≡ 75 + cond b 1 0 → same (drop 73 s) (lineEnd (cond b 1 0)) ≡ ends s (cond b 1 0)
-    go true e h = ap (λ (l : List ℕ). same l (44 ∷ 0x0D ∷ 0x0A ∷ [])) (last 3 73 s h) ∙ rw (e, and-true)
-    go false e h = ap (λ (l : List ℕ). same l (0x0D ∷ 0x0A ∷ [])) (last 2 73 s h) ∙ rw and-true
+    go : (b : Bool) → eqb (getD s 73 0) 44 ≡ b → 75 + cond b 1 0 ≤ length s → same (part 73 (2 + cond b 1 0) s) (lineEnd (cond b 1 0)) ≡ lineEnds s (cond b 1 0)
+    go true e h = ap (λ (l : List ℕ). same l (44 ∷ 0x0D ∷ 0x0A ∷ [])) (part-elements 73 3 s (omega arith)) ∙ rw (e, and-true)
+    go false e h = ap (λ (l : List ℕ). same l (0x0D ∷ 0x0A ∷ [])) (part-elements 73 2 s (omega arith)) ∙ rw and-true
 
 module _ (s : List ℕ) (h : length s ≡ reportLengthIn s) where
+  -- all that stands behind the checksum is the line end
+  all-behind : part 73 (2 + commaIn s) s ≡ drop 73 s
+  all-behind = take-all (2 + commaIn s) (drop 73 s) (omega (arith, length-drop 73 s))
+
   -- with so many bytes there is a byte at each of these places
   by-ends : framed s ≡ (beginsReport s && endsReport s && sums s)
   by-ends =
       by-parts s (omega arith)
-      ∙ ap (λ (b : Bool). front s && b && sums s) (by-line-end s h)
+      ∙ ap (λ (l : List ℕ). front s && same l (lineEnd (commaIn s)) && sums s) (sym all-behind)
       ∙ sym (rw (le-leb 4 (length s) (omega arith), le-leb (reportLengthIn s) (length s) (omega arith)))
 
   pub bad-front : beginsReport s ≡ false → framed s ≡ false
@@ -100,7 +104,7 @@ not-ended s e =
       | no other ↦ not-status s other
     ]
 
--- What stands behind a report is no part of it: its own bytes are as many, of the same form, and end alike.
+-- What stands behind a report is no part of it: its own bytes are of the same form, and end alike.
 module _ (s : List ℕ) (there : reportLengthIn s ≤ length s) where
   abbrev own : List ℕ
   own = take (reportLengthIn s) s
@@ -108,12 +112,13 @@ module _ (s : List ℕ) (there : reportLengthIn s ≤ length s) where
   own-comma : commaIn own ≡ commaIn s
   own-comma = comma-in-front (reportLengthIn s) s (omega arith)
 
-  pub own-length : length own ≡ reportLengthIn own
-  own-length = length-take-le (reportLengthIn s) s there ∙ ap (λ (c : ℕ). 75 + c) (sym own-comma)
+  own-length : length own ≡ reportLengthIn s
+  own-length = length-take-le (reportLengthIn s) s there
 
   pub whole-end : endsReport own ≡ endsReport s
   whole-end =
-      ap (λ (c : ℕ). leb (75 + c) (length own) && ends own c) own-comma
-      ∙ (λ i. leb (reportLengthIn s) (length-take-le (reportLengthIn s) s there i)
+      ap (λ (b : Bool). leb (reportLengthIn own) (length own) && b) (by-bytes own (omega (arith, own-comma, own-length)))
+      ∙ ap (λ (c : ℕ). leb (75 + c) (length own) && lineEnds own c) own-comma
+      ∙ (λ i. leb (reportLengthIn s) (own-length i)
       && (eqb (getD-take (reportLengthIn s) s (73 + commaIn s) 0 (omega arith) i) 0x0D && eqb (getD-take (reportLengthIn s) s (74 + commaIn s) 0 (omega arith) i) 0x0A))
-      ∙ rw (le-leb (reportLengthIn s) (reportLengthIn s) (omega arith), le-leb (reportLengthIn s) (length s) there)
+      ∙ rw (le-leb (reportLengthIn s) (reportLengthIn s) (omega arith), le-leb (reportLengthIn s) (length s) there) (sym (by-bytes s there))

@@ -19,7 +19,7 @@ weighed n (b ∷ bs) = weighed (n * 10 + b % 16) bs
 unfoldable pub reportIn : List ℕ → Reading
 reportIn bs = cond (isStatus bs) (Good (Status (statusIn bs))) (Refused notGood)
 
--- whether bytes are a status report, and the numbers of its fields; of other bytes zeros
+-- whether bytes are a status report, and its values as numbers; of other bytes zeros
 unfoldable pub numbersIn : List ℕ → ReportNumbers
 numbersIn bs =
     cond (isStatus bs) (record { good = true; numbers = statusNumbers (statusIn bs) }) (record { good = false; numbers = replicate statusValues 0 })

@@ -1,5 +1,6 @@
 // The two ends of a report, for whoever asks before the whole is tested: nearly all bytes that are no report are
 // turned away by one of them. And its form and its length, which the byte behind the checksum tells.
+use rules::BEHIND_CHECKSUM;
 use rules::REPLY_MARK;
 use rules::REPORT_COUNT;
 use rules::REPORT_LENGTH;
@@ -7,10 +8,8 @@ ghost use mathlib.Core.Path.{_≡_};
 ghost use Rattle.rules.specs.Status.{commaIn, reportLengthIn};
 ghost use Rattle.spe.specs.Ends.{beginsReport, endsReport};
 
-// Where the two bytes of its line end stand, if no comma stands before them.
-const RETURN_PLACE: usize = REPORT_LENGTH - 2;
-
-const FEED_PLACE: usize = REPORT_LENGTH - 1;
+// Where the second byte of its line end stands, if no comma stands before the first.
+const BEHIND_RETURN: usize = BEHIND_CHECKSUM + 1;
 
 // Whether a report begins at the first byte: three marks of family 1, and the count 43.
 pub fn begins_report(s: &[u8]) -> bool
@@ -26,10 +25,10 @@ pub fn begins_report(s: &[u8]) -> bool
 pub fn comma_in(s: &[u8]) -> u8
     ensures { λ r. ⌜ r ≡ commaIn (now (s .entry)) ⌝ }
 {
-    if s.len() <= RETURN_PLACE {
+    if s.len() <= BEHIND_CHECKSUM {
         return 0;
     }
-    if s[RETURN_PLACE] == b',' {
+    if s[BEHIND_CHECKSUM] == b',' {
         return 1;
     }
     0
@@ -50,5 +49,5 @@ pub fn ends_report(s: &[u8]) -> bool
     if s.len() < REPORT_LENGTH + comma {
         return false;
     }
-    (s[RETURN_PLACE + comma] == 0x0D) & (s[FEED_PLACE + comma] == 0x0A)
+    (s[BEHIND_CHECKSUM + comma] == 0x0D) & (s[BEHIND_RETURN + comma] == 0x0A)
 }

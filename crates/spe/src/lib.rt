@@ -32,7 +32,7 @@ ghost use Rattle.rules.specs.Status.{dataLength, readable, statusOf};
 ghost use Rattle.rules.specs.Answers.{replies, commands, Reads, statusNumbers};
 ghost use Rattle.spe.specs.Report.{weighed, numbersIn, reportIn};
 
-// Whether some bytes are a status report, and the numbers of its fields.
+// Whether some bytes are a status report, and its values as numbers.
 pub struct ReportNumbers {
     pub good: bool,
     pub numbers: [u32; STATUS_VALUES],

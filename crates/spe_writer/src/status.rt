@@ -1,5 +1,6 @@
 // The writer of a status report: into the lent output's front, or it refuses and leaves that as it was.
 use crate::ranges::status_in_range;
+use rules::BEHIND_CHECKSUM;
 use rules::NO_RECORD;
 use rules::NO_ROOM;
 use rules::REPORT_LENGTH;
@@ -12,7 +13,7 @@ ghost use lib.ListN.{length, take, drop};
 ghost use Rattle.pens.specs.Pens.{laid};
 ghost use Rattle.rules.specs.Answers.{Writes, noRecord};
 ghost use Rattle.rules.specs.Bytes.{part};
-ghost use Rattle.rules.specs.Status.{dataLength, reportLength, lineEnd, statusInRange, statusTexts, statusBytes, joined};
+ghost use Rattle.rules.specs.Status.{dataLength, reportLength, behindChecksum, lineEnd, statusInRange, statusTexts, statusBytes, joined};
 ghost use Rattle.rules.specs.Sentences.{commas};
 ghost use Rattle.spe_writer.specs.Fields.{letter, pointIn, check};
 
@@ -99,13 +100,13 @@ fn lay_check(out: &mut [u8])
 
 // The line end, with the comma before it or without.
 fn lay_end(comma: u8, out: &mut [u8])
-    ensures { λ _. ⌜ now (out .exit) ≡ laid 73 (lineEnd comma) (now (out .entry)) ⌝ }
+    ensures { λ _. ⌜ now (out .exit) ≡ laid behindChecksum (lineEnd comma) (now (out .entry)) ⌝ }
 {
     if comma == 1 {
-        pens::put_bytes(out, 73, b",\r\n");
+        pens::put_bytes(out, BEHIND_CHECKSUM, b",\r\n");
         return;
     }
-    pens::put_bytes(out, 73, b"\r\n");
+    pens::put_bytes(out, BEHIND_CHECKSUM, b"\r\n");
 }
 
 // The head, the data and what stands behind it.

@@ -1,4 +1,4 @@
-// Starts: what one is known by, which is the number of its family, its mark, how many bytes a count needs, and a payload's
+// Starts: what one is known by, which is the number of its family, its mark, how many bytes it needs, and a payload's
 // bytes; and stamps, the places of starts in a stream.
 mod families;
 mod marks;

@@ -29,7 +29,7 @@ module _ (family : ℕ) (spe : isSpe family ≡ true) (bs : List ℕ) where
       let n = length (take m bs) in
       few-marks family spe (take m bs) (omega arith) (front-marks m n (omega arith) (λ i h. marks i (omega arith)))
 
-  -- and while it has fewer bytes than the count needs.
+  -- and while it has fewer bytes than the start needs.
   front-missing : (m : ℕ) → Marks family 3 bs → length (take m bs) < needs family bs → head family (take m bs) ≡ wait
   front-missing m marks fewer =
       elim (decLt (length (take m bs)) 4) [
@@ -71,12 +71,12 @@ module _ (family : ℕ) (spe : isSpe family ≡ true) (bs : List ℕ) where
         counted = no-count family spe bs there marks none .1;
       }
 
-  -- Fewer bytes than the count needs: undecided all along.
+  -- Fewer bytes than the start needs: undecided all along.
   course-missing : Marks family 3 bs → length bs < needs family bs → Course family bs
   course-missing marks fewer =
       waits (λ m. front-missing m marks (omega (arith, length-take m bs))) (omega (arith, needs-longest family bs))
 
-  -- All the bytes that the count needs: with the last of them the frame is whole.
+  -- All the bytes that the start needs: with the last of them the frame is whole.
   course-there : 4 ≤ length bs → Marks family 3 bs → 0 < needs family bs → needs family bs ≤ length bs → Course family bs
   course-there there marks some enough =
       let n = needs family bs in
@@ -94,7 +94,7 @@ module _ (family : ℕ) (spe : isSpe family ≡ true) (bs : List ℕ) where
         counted = all-there family spe bs there marks n refl some enough .1;
       }
 
-  -- Behind three marks the count tells which;
+  -- Behind three marks what the start needs tells which;
   course-by-count : 4 ≤ length bs → Marks family 3 bs → Course family bs
   course-by-count there marks =
       elim (decLt (length bs) (needs family bs)) [

@@ -2,7 +2,7 @@
 -- every good frame follows them. One argument for both families, over the mark and what a start needs.
 -- Each rule computes the definition by its tests; a bad start is bad since no good frame begins so. Assumes nothing.
 use Prim.Native.Nat.{ℕ, zero, suc, _+_, _/_, _%_, _<_, _≤_}
-use mathlib.Core.Path.{_≡_, refl, sym, ap, ap₂, _∙_}
+use mathlib.Core.Path.{_≡_, refl, sym, ap, _∙_}
 use mathlib.Core.Bool.{Bool, true, false, _&&_, cond, and-false}
 use mathlib.Core.List.{List, [], _∷_, _++_}
 use mathlib.Core.Logic.{_⊎_, inl, inr, ⊎-elim}
@@ -166,7 +166,7 @@ module _ (family : ℕ) (spe : isSpe family ≡ true) (bs : List ℕ) where
   abbrev needed : ℕ
   needed = needs family bs
 
-  -- a good frame at the head has the marks, and as many bytes as its count needs
+  -- a good frame at the head has the marks, and as many bytes as its start needs
   pub good-start : (n : ℕ) (f : Frame) → readOne family (take n bs) ≡ Good f
       → Marks family 3 bs × (needed ≡ length (take n bs)) × (4 ≤ length (take n bs))
   good-start n f e =

@@ -9,7 +9,7 @@ use lib.ListN.{length, drop, getD}
 use Rattle.stream_rules.specs.Heads.{isSpe, markOf, needs, payloadRun}
 use Rattle.rules.specs.Sentences.{longestPayload}
 
--- the first byte that is no mark, or a count that is not allowed, or as many bytes as the count needs
+-- the first byte that is no mark, or a count that is not allowed, or as many bytes as the start needs
 unfoldable pub spe-settled : ℕ → List ℕ → ℕ
 spe-settled family bs =
     cond (not (eqb (markOf family) (getD bs 0 0))) 1

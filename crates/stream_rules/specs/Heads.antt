@@ -65,7 +65,7 @@ sentence-undecided (b ∷ bs) = eqb b (code "$") && leb (length (payloadRun bs))
 unfoldable pub undecided : ℕ → List ℕ → Bool
 undecided family bs = cond (isSpe family) (spe-undecided family bs) (sentence-undecided bs)
 
--- How long a frame at the head would be: as long as its count needs, or its payload with `$`, `*` and four digits. A
+-- How long a frame at the head would be: as long as its start needs, or its payload with `$`, `*` and four digits. A
 -- count that is not allowed makes it 0, and no bytes are no frame.
 abbrev pub lengthAt : ℕ → List ℕ → ℕ
 lengthAt family bs = cond (isSpe family) (needs family bs) (length (payloadRun (drop 1 bs)) + 6)

@@ -1,4 +1,4 @@
--- The rules of document 01 for streams, the lister and stamps, in its order.
+-- The rules of document 01 for streams, the lister and stamps, in its order, with what [3] of document 02 changes of reports.
 pub mod Heads
 pub mod Rule
 pub mod Streams

@@ -5,9 +5,9 @@ use rows::COMMAND_ROW;
 use rows::lay_heading;
 use rows::read_row;
 use rules::COMMANDS;
-use rules::LONGEST_REPORT;
 use rules::PACKET_LENGTH;
 use rules::REPLIES;
+use rules::REPORT_LENGTH;
 use spe::is_command;
 use starts::bytes_needed;
 use stream_rules::PLACES;
@@ -27,11 +27,14 @@ fn front_reply(
     requires { ⌜ HasRoom (now held) (now numbers) ⌝ }
     ensures { λ n. ⌜ FrontLent replies at skipped held offered numbers n ⌝ }
 {
-    if offered.len() < LONGEST_REPORT {
+    if offered.len() < REPORT_LENGTH {
         return 0;
     }
     let n = bytes_needed(REPLIES, offered);
     if n == 0 {
+        return 0;
+    }
+    if offered.len() < n {
         return 0;
     }
     if read_row(REPLIES, &offered[..n], n, at, skipped, numbers) != 0 {

@@ -2,7 +2,7 @@
 -- whose other ones are zeros.
 -- Assumes nothing.
 use Prim.Native.Nat.{ℕ, _-_, _^_, _≤_, _<_}
-use mathlib.Core.Path.{_≡_, refl, sym, _∙_}
+use mathlib.Core.Path.{_≡_, refl}
 use mathlib.Core.List.{List, map}
 use native.Mathlib.Numerals.{add-one}
 use native.Mathlib.Omega.{arith}
@@ -13,7 +13,6 @@ use denote.Ref.{now}
 use lib.IntN.{ℤ, pos}
 use lib.ListN.{length, getD, replicate, length-map, List·getD-map}
 use lib.Seq.{take-length}
-use Rattle.records.specs.Told.{placed, withValues}
 use Rattle.records.proofs.Places.{zeros-left, over, one-more}
 use Rattle.records.proofs.told.with_numbers.Statement.{statement}
 use Rattle.records.proofs.told.with_numbers.Tie as tie

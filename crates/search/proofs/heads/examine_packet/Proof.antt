@@ -68,7 +68,7 @@ three c = more (from-three c) 2 (two (c .before .before .before)) (c .if6 .left)
 ne-zero : {n : ℕ} → (n ≡ 0 → ⊥) → 0 < n
 ne-zero some = omega arith
 
--- With three marks and a count: what the count needs decides.
+-- With three marks and a count: what the start needs decides.
 four-there : (c : tie.Else7) → 4 ≤ length (bytes (from-three (c .before)))
 four-there c = omega arith
 

@@ -1,7 +1,7 @@
 -- `spe::ends::ends_report` meets its contract: its tests are those of the definition, behind the comma or where it would stand.
 -- Assumes nothing.
 use Prim.Native.Nat.{ℕ, _+_, _≤_, _<_}
-use mathlib.Core.Path.{_≡_}
+use mathlib.Core.Path.{_≡_, sym}
 use mathlib.Core.Bool.{false, _&&_}
 use mathlib.Core.List.{List}
 use native.Mathlib.Omega.{arith}
@@ -11,6 +11,7 @@ use lib.Dec.{eqb}
 use lib.ListN.{length, getD}
 use Rattle.rules.specs.Status.{commaIn, reportLengthIn}
 use Rattle.spe.specs.Ends.{endsReport}
+use Rattle.spe.proofs.ReportFrames.{by-bytes}
 use Rattle.spe.proofs.ends.ends_report.Statement.{statement}
 use Rattle.spe.proofs.ends.ends_report.Tie as tie
 
@@ -20,7 +21,9 @@ module _ (s : List ℕ) (n : ℕ) (seen : n ≡ commaIn s) where
   is-cut fewer = rw (lt-leb (reportLengthIn s) (length s) (omega (arith, seen)))
 
   is-whole : 75 + n ≤ length s → (eqb (getD s (73 + n) 0) 0x0D && eqb (getD s (74 + n) 0) 0x0A) ≡ endsReport s
-  is-whole there = rw (seen, le-leb (reportLengthIn s) (length s) (omega (arith, seen)))
+  is-whole there =
+      let whole : reportLengthIn s ≤ length s = omega (arith, seen) in
+      rw (seen, le-leb (reportLengthIn s) (length s) whole) (sym (by-bytes s whole))
 
 comma-in-requires : tie.Need-comma-in-requires
 comma-in-requires c κs = search needs
