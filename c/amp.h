@@ -1,9 +1,9 @@
-/* What a C program needs of libamp.a: reading and writing the serial frames of SPE amplifiers and of
- * the Alpha 9500. Every function is proved; crates/amp has the statements. What each gives back and leaves
+/* What a C program needs of libamp.a: reading and writing the serial frames of SPE amplifiers, of the
+ * Alpha 9500 and of the KPA1500. Every function is proved; crates/amp has the statements. What each gives back and leaves
  * stands in crates/amp/specs/Boundary.antt; of amp_feed in crates/row_stream/specs/FedRows.antt, of the
  * writers in crates/row_writer/specs/Given.antt.
  *
- * Families: 1 SPE amplifier to host, 2 Alpha 9500, 3 host to SPE amplifier.
+ * Families: 1 SPE amplifier to host, 2 Alpha 9500, 3 host to SPE amplifier, 4 KPA1500 (both ways).
  *
  * A function that returns uint32_t returns 0 or, where it refuses, one of the numbers below, and has
  * then changed nothing that was lent to it; amp_stamp_order alone refuses nothing and has numbers of its
@@ -25,7 +25,7 @@ extern "C" {
 
 /* The numbers for no. */
 enum {
-    AMP_NO_FAMILY = 1,      /* the family is not 1, 2 or 3 */
+    AMP_NO_FAMILY = 1,      /* the family is not 1 to 4 */
     AMP_NO_CODE = 2,        /* a command or an acknowledgement cannot carry this code */
     AMP_NO_RECORD = 3,      /* a value does not fit its place, or there is no such kind */
     AMP_NO_ROOM = 4,        /* the lent output, list or row is shorter than the answer */
@@ -41,7 +41,8 @@ enum {
  * 0: what a closed reader dropped at the end is counted in the reader's own skipped. */
 enum {
     AMP_KIND,    /* one of the kinds below */
-    AMP_CODE,    /* the code of an acknowledgement or a command, the number of a sentence, else 0 */
+    AMP_CODE,    /* the code of an acknowledgement or a command, the number of a sentence, the letters of
+                  * a question or a response, else 0 */
     AMP_TAKEN,   /* how many of the offered bytes the call took */
     AMP_START,   /* where the frame starts in the stream, modulo 2^32 */
     AMP_SKIPPED, /* how many bytes were skipped before it since the last frame, modulo 2^32 */
@@ -56,7 +57,10 @@ enum {
     AMP_COMMAND = 3,
     AMP_SENTENCE = 4,
     AMP_MORE = 5, /* more bytes are wanted: the call took all */
-    AMP_DONE = 6  /* the reader is closed and holds nothing more */
+    AMP_DONE = 6, /* the reader is closed and holds nothing more */
+    AMP_QUESTION = 7, /* of the KPA1500: letters with nothing behind them */
+    AMP_RESPONSE = 8, /* letters with what they tell behind them; and FT, which is alone */
+    AMP_OTHER = 9     /* other letters, with anything behind them */
 };
 
 /* The values of a status report, from AMP_VALUES on. Letters are their ASCII bytes. */
@@ -101,6 +105,32 @@ enum {
     AMP_05_OPTIONS, AMP_05_STATE, AMP_05_WTIME, AMP_05_TCMD, AMP_05_LCMD, AMP_05_VALUES
 };
 
+/* The letters of a question or a response, as its code: their ASCII bytes, capitals, the first the
+ * highest. The values of a response stand behind each. */
+enum {
+    AMP_SN = 0x534E,    /* serial number: one value, to 99999 */
+    AMP_RV = 0x5256,    /* firmware version: two, of two digits each */
+    AMP_PWF = 0x505746, /* forward power in watts: one, to 9999 */
+    AMP_PWI = 0x505749, /* input power */
+    AMP_PWR = 0x505752, /* reflected power */
+    AMP_PWD = 0x505744, /* dissipated power */
+    AMP_FR = 0x4652,    /* frequency in kHz: one, to 99999 */
+    AMP_FQ = 0x4651,    /* the transmit frequency counter in kHz: one, to 99999 */
+    AMP_FS = 0x4653,    /* fan speed: one, 0 to 5 */
+    AMP_HS = 0x4853,    /* high-SWR retune: one, 0 or 1 */
+    AMP_CC = 0x4343,    /* date and time: six, those below */
+    AMP_FT = 0x4654     /* a tune that starts or has ended: none; it is always AMP_RESPONSE */
+};
+
+enum {
+    AMP_CC_YEAR /* 0 to 99, of 2000 to 2099 */, AMP_CC_MONTH, AMP_CC_DAY, AMP_CC_HOUR, AMP_CC_MINUTE,
+    AMP_CC_SECOND, AMP_CC_VALUES
+};
+
+/* The values of AMP_OTHER: its letters, up to 38 capitals, four to a value, as ASCII bytes, the first the
+ * highest. A value with fewer than four is the last but zeros. */
+enum { AMP_OTHER_VALUES = 10 };
+
 /* A stream reader's state, 144 bytes. Any bytes in it are a legal state. */
 typedef struct amp_reader {
     uint8_t family;
@@ -141,7 +171,8 @@ size_t amp_next(uint32_t family, const uint8_t *capture, size_t capture_len,
 /* Writes the frame of a kind, a code and values to the front of the output, and its length: kind, code
  * and values as a row has them. Values behind those of the kind are not looked at, nor is the code of a
  * status report. Refusal 2 for the code of an acknowledgement or a command, 3 for anything else that is no
- * frame with a writer, then 4. A status report has 75 bytes, and 76 with the comma. */
+ * frame with a writer, then 4. A status report has 75 bytes, and 76 with the comma; a message of the KPA1500
+ * has 4 to 21, with capital letters. */
 uint32_t amp_write(uint32_t kind, uint32_t code, const int64_t *values, size_t values_len,
                    uint8_t *out, size_t out_len, size_t *length);
 

@@ -31,6 +31,9 @@ pub const AMP_COMMAND: u32 = 3;
 pub const AMP_SENTENCE: u32 = 4;
 pub const AMP_MORE: u32 = 5;
 pub const AMP_DONE: u32 = 6;
+pub const AMP_QUESTION: u32 = 7;
+pub const AMP_RESPONSE: u32 = 8;
+pub const AMP_OTHER: u32 = 9;
 
 /// The values of a status report, from AMP_VALUES on.
 pub const AMP_STATUS_ID: usize = 0;
@@ -97,6 +100,32 @@ pub const AMP_05_WTIME: usize = 8;
 pub const AMP_05_TCMD: usize = 9;
 pub const AMP_05_LCMD: usize = 10;
 pub const AMP_05_VALUES: usize = 11;
+
+/// The letters of a question or a response, as its code.
+pub const AMP_SN: u32 = 0x534E;
+pub const AMP_RV: u32 = 0x5256;
+pub const AMP_PWF: u32 = 0x50_5746;
+pub const AMP_PWI: u32 = 0x50_5749;
+pub const AMP_PWR: u32 = 0x50_5752;
+pub const AMP_PWD: u32 = 0x50_5744;
+pub const AMP_FR: u32 = 0x4652;
+pub const AMP_FQ: u32 = 0x4651;
+pub const AMP_FS: u32 = 0x4653;
+pub const AMP_HS: u32 = 0x4853;
+pub const AMP_CC: u32 = 0x4343;
+pub const AMP_FT: u32 = 0x4654;
+
+/// The values of CC.
+pub const AMP_CC_YEAR: usize = 0;
+pub const AMP_CC_MONTH: usize = 1;
+pub const AMP_CC_DAY: usize = 2;
+pub const AMP_CC_HOUR: usize = 3;
+pub const AMP_CC_MINUTE: usize = 4;
+pub const AMP_CC_SECOND: usize = 5;
+pub const AMP_CC_VALUES: usize = 6;
+
+/// The values of other letters: four letters to each.
+pub const AMP_OTHER_VALUES: usize = 10;
 
 /// How stamp a stands to stamp b.
 pub const AMP_EARLIER: u32 = 1;
