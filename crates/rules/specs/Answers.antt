@@ -6,22 +6,30 @@ use mathlib.Core.List.{List, [], _∷_, _++_, map}
 use lib.Dec.{eqb, leb}
 use lib.IntN.{ℤ, pos}
 use lib.ListN.{length, drop, getD}
-use Rattle.rules.specs.Bytes.{oneOf}
+use Rattle.rules.specs.Bytes.{ascii, oneOf, same}
 use Rattle.rules.specs.Codes.{isCode, isAckCode, isAck, isCommand, ack, command}
 use Rattle.rules.specs.Status.{isStatus, statusIn, statusInRange, statusBytes}
 use Rattle.rules.specs.Sentences.{isSentence, payloadOf, numberOf, textsOf, is02, is03, is05, sentence02, sentence03, sentence05, inRange02, inRange03, inRange05, numbers02, numbers03, bytes02, bytes03, bytes05}
+use Rattle.rules.specs.Messages.{isMessage, bodyOf, lettersIn, behindLetters, word, asLetters, behind, isNumber, arePairs, pairAt, versionMarks, clockMarks, clockOf, clockInRange, messageInRange, messageBytes, messageNumbers}
+use Rattle.rules.specs.Numbers.{decimal}
 use Rattle.rules.specs.declared.Status as StatusType
 use Rattle.rules.specs.declared.Sentence05.{Sentence05}
+use Rattle.rules.specs.declared.Letters.{Letters}
+use Rattle.rules.specs.declared.Behind.{Behind}
+use Rattle.rules.specs.declared.Behind.the-variants.{ANumber, AVersion, AClock, Nothing, Anything}
+use Rattle.rules.specs.declared.Message as MessageType
+use Rattle.rules.specs.declared.Message.the-variants.{Question, Number, Version, Clock, Tune, OtherLetters}
 use Rattle.rules.specs.declared.Frame.{Frame}
-use Rattle.rules.specs.declared.Frame.the-variants.{Ack, Status, Command, Apa02, Apa03, Apa05, Other}
+use Rattle.rules.specs.declared.Frame.the-variants.{Ack, Status, Command, Apa02, Apa03, Apa05, Other, Message}
 use Rattle.rules.specs.declared.Kind.{Kind}
-use Rattle.rules.specs.declared.Kind.the-variants.{OfAck, OfStatus, OfCommand, OfSentence}
+use Rattle.rules.specs.declared.Kind.the-variants.{OfAck, OfStatus, OfCommand, OfSentence, OfQuestion, OfResponse, OfLetters}
 use Rattle.rules.specs.declared.Reading.{Reading}
 use Rattle.rules.specs.declared.Reading.the-variants.{Good, Refused}
 use Rattle.rules.specs.declared.Written.{Written}
 use Rattle.rules.specs.declared.Written.the-variants.{Length, Refused as NotWritten}
 
--- The numbers of the families: replies of an SPE amplifier, sentences of the Alpha 9500, commands to an SPE amplifier.
+-- The numbers of the families: replies of an SPE amplifier, sentences of the Alpha 9500, commands to an SPE amplifier, and
+-- messages to and from a KPA1500.
 abbrev pub replies : ℕ
 replies = 1
 
@@ -30,6 +38,9 @@ sentences = 2
 
 abbrev pub commands : ℕ
 commands = 3
+
+abbrev pub messages : ℕ
+messages = 4
 
 -- The numbers for no, of those that a reader of one frame and a writer give.
 abbrev pub noFamily : ℕ
@@ -63,6 +74,15 @@ pub data Says : Type 0 where
   no : ℕ → Says
   yes : Answered → List ℤ → Says
 
+-- The kind of a message: a question, a response, or letters that are not listed.
+abbrev pub messageKind : MessageType.Message → Kind
+messageKind (Question letters) = OfQuestion letters
+messageKind (Number letters n) = OfResponse letters
+messageKind (Version a b) = OfResponse (word (ascii "RV"))
+messageKind (Clock c) = OfResponse (word (ascii "CC"))
+messageKind Tune = OfResponse (word (ascii "FT"))
+messageKind (OtherLetters w) = OfLetters w
+
 -- The kind of a frame, as a listing tells them apart.
 abbrev pub kindOf : Frame → Kind
 kindOf (Ack c) = OfAck c
@@ -72,6 +92,7 @@ kindOf (Apa02 r) = OfSentence 2
 kindOf (Apa03 r) = OfSentence 3
 kindOf (Apa05 r) = OfSentence 5
 kindOf (Other n) = OfSentence n
+kindOf (Message m) = messageKind m
 
 -- The values of a frame, in the order of document 01: of a status report its fields and, last, its form; of a sentence with
 -- a record its numbers; the others have none.
@@ -97,6 +118,7 @@ values (Apa02 r) = map pos (numbers02 r)
 values (Apa03 r) = map pos (numbers03 r) ++ r .temp ∷ []
 values (Apa05 r) = map pos (numbers05 r)
 values (Other n) = []
+values (Message m) = map pos (messageNumbers m)
 
 -- each case of the answer of a reader of one frame, and of a writer
 abbrev pub said : Reading → Says
@@ -135,16 +157,40 @@ readFamily2 bs = cond (isSentence bs) (readTexts (numberOf (payloadOf bs)) (text
 unfoldable pub readFamily3 : List ℕ → Reading
 readFamily3 bs = cond (isCommand bs) (Good (Command (getD bs 4 0))) (Refused notGood)
 
--- A reader of one frame: refusal 1 where the family is not 1, 2 or 3, else 8 where the bytes are not one good frame.
+-- Family 4 is a message. Listed letters with nothing behind them are a question, except FT, which is alone; with what may
+-- stand behind them a response; with anything else the message is not good. Other letters are handed out, whatever stands
+-- behind them.
+abbrev pub orQuestion : ℕ → List ℕ → Reading → Reading
+orQuestion letters [] response = Good (Message (Question letters))
+orQuestion letters (b ∷ bs) response = response
+
+abbrev pub readBehind : ℕ → Letters → Behind → List ℕ → Reading
+readBehind n w (ANumber width limit) t = orQuestion n t (cond (isNumber width limit t) (Good (Message (Number n (decimal t)))) (Refused notGood))
+readBehind n w AVersion t = orQuestion n t (cond (arePairs versionMarks t) (Good (Message (Version (pairAt t 0) (pairAt t 1)))) (Refused notGood))
+readBehind n w AClock t =
+    orQuestion n t (cond (arePairs clockMarks t && clockInRange (clockOf t)) (Good (Message (Clock (clockOf t)))) (Refused notGood))
+readBehind n w Nothing t = cond (same t []) (Good (Message Tune)) (Refused notGood)
+readBehind n w Anything t = Good (Message (OtherLetters w))
+
+unfoldable pub readBody : List ℕ → Reading
+readBody body =
+    let letters = lettersIn body in
+    readBehind (word letters) (asLetters letters) (behind (word letters)) (behindLetters body)
+
+unfoldable pub readFamily4 : List ℕ → Reading
+readFamily4 bs = cond (isMessage bs) (readBody (bodyOf bs)) (Refused notGood)
+
+-- A reader of one frame: refusal 1 where the family is not 1 to 4, else 8 where the bytes are not one good frame.
 unfoldable pub readOne : ℕ → List ℕ → Reading
 readOne family bs =
     cond (eqb family replies) (readFamily1 bs)
     (cond (eqb family sentences) (readFamily2 bs)
     (cond (eqb family commands) (readFamily3 bs)
-    (Refused noFamily)))
+    (cond (eqb family messages) (readFamily4 bs)
+    (Refused noFamily))))
 
 abbrev pub isFamily : ℕ → Bool
-isFamily family = oneOf (replies ∷ sentences ∷ commands ∷ []) family
+isFamily family = oneOf (replies ∷ sentences ∷ commands ∷ messages ∷ []) family
 
 abbrev pub valuesOr8 : Reading → Says
 valuesOr8 (Good f) = yes (aFrame (kindOf f)) (values f)
@@ -174,9 +220,12 @@ familyOf (OfAck c) = replies
 familyOf OfStatus = replies
 familyOf (OfCommand c) = commands
 familyOf (OfSentence n) = sentences
+familyOf (OfQuestion letters) = messages
+familyOf (OfResponse letters) = messages
+familyOf (OfLetters w) = messages
 
--- What the writers know of a frame: whether its code or record is allowed, and its bytes. An "other" sentence has no
--- writer, so it is never allowed and has no bytes.
+-- What the writers know of a frame: whether its code or record is allowed, and its bytes. An "other" sentence and letters
+-- that are not listed have no writer, so they are never allowed and have no bytes.
 unfoldable pub allowed : Frame → Bool
 allowed (Ack c) = isAckCode c
 allowed (Status s) = statusInRange s
@@ -185,6 +234,7 @@ allowed (Apa02 r) = inRange02 r
 allowed (Apa03 r) = inRange03 r
 allowed (Apa05 r) = inRange05 r
 allowed (Other n) = false
+allowed (Message m) = messageInRange m
 
 unfoldable pub bytesOf : Frame → List ℕ
 bytesOf (Ack c) = ack c
@@ -194,6 +244,7 @@ bytesOf (Apa02 r) = bytes02 r
 bytesOf (Apa03 r) = bytes03 r
 bytesOf (Apa05 r) = bytes05 r
 bytesOf (Other n) = []
+bytesOf (Message m) = messageBytes m
 
 abbrev pub isSome : List ℕ → Bool
 isSome [] = false
@@ -208,3 +259,6 @@ notAllowed (OfAck c) = noCode
 notAllowed OfStatus = noRecord
 notAllowed (OfCommand c) = noCode
 notAllowed (OfSentence n) = noRecord
+notAllowed (OfQuestion letters) = noRecord
+notAllowed (OfResponse letters) = noRecord
+notAllowed (OfLetters w) = noRecord

@@ -4,7 +4,7 @@ use Prim.Native.Char.{code}
 use Prim.Native.String.{String}
 use Prim.Native.String as Text
 use mathlib.Core.Path.{_≡_}
-use mathlib.Core.Bool.{Bool, true, false, _&&_, _||_}
+use mathlib.Core.Bool.{Bool, true, false, _&&_, _||_, not}
 use mathlib.Core.List.{List, [], _∷_}
 use lib.Dec.{eqb, leb}
 use lib.ListN.{take, drop, getD}
@@ -23,6 +23,10 @@ oneOf (c ∷ cs) b = eqb b c || oneOf cs b
 -- b is from low to high
 abbrev pub between : ℕ → ℕ → ℕ → Bool
 between low high b = leb low b && leb b high
+
+-- b is from 20 to 7E, and neither of two bytes
+abbrev pub textByte : ℕ → ℕ → ℕ → Bool
+textByte a z b = between 0x20 0x7E b && not (eqb b a) && not (eqb b z)
 
 -- each passes the test
 unfoldable pub every : {A : Type 0} → (A → Bool) → List A → Bool

@@ -10,8 +10,11 @@ use Rattle.rules.specs.Numbers.{isDigit}
 use lib.IntN.{natAbs}
 use Rattle.rules.specs.Status.{field, dataOf}
 use Rattle.rules.specs.Sentences.{widths02, widths03, whole, temperature, payloadOf, textsOf}
+use Rattle.rules.specs.Messages.{isCapital, letterRun, bodyOf}
+use Rattle.rules.specs.declared.Message as MessageType
+use Rattle.rules.specs.declared.Message.the-variants.{Question, Number, Version, Clock, Tune, OtherLetters}
 use Rattle.rules.specs.declared.Frame.{Frame}
-use Rattle.rules.specs.declared.Frame.the-variants.{Ack, Status, Command, Apa02, Apa03, Apa05, Other}
+use Rattle.rules.specs.declared.Frame.the-variants.{Ack, Status, Command, Apa02, Apa03, Apa05, Other, Message}
 
 -- padded with zeros: digits alone
 abbrev pub zerosInFront : List ℕ → Bool
@@ -47,6 +50,16 @@ fullWidth (w ∷ ws) (t ∷ ts) = eqb (length t) w && fullWidth ws ts
 unfoldable pub temperatureForm : List ℕ → Bool
 temperatureForm t = eqb (length (whole t)) 3 && not (eqb (first t) (code "-") && eqb (natAbs (temperature t)) 0)
 
+-- The letters of a message are capitals; all else in one can be written in one way only. Nothing is asked of letters that
+-- are not listed.
+abbrev pub messageForm : MessageType.Message → List ℕ → Bool
+messageForm (Question letters) body = every isCapital (letterRun body)
+messageForm (Number letters n) body = every isCapital (letterRun body)
+messageForm (Version a b) body = every isCapital (letterRun body)
+messageForm (Clock c) body = every isCapital (letterRun body)
+messageForm Tune body = every isCapital (letterRun body)
+messageForm (OtherLetters w) body = true
+
 -- The fields of this frame, read from these bytes, stood in the writer's form. Sentence 05, an acknowledgement and a
 -- command can be written in one way only.
 unfoldable pub inForm : Frame → List ℕ → Bool
@@ -57,3 +70,4 @@ inForm (Apa02 r) bs = fullWidth widths02 (textsOf (payloadOf bs))
 inForm (Apa03 r) bs = fullWidth widths03 (textsOf (payloadOf bs)) && temperatureForm (getD (textsOf (payloadOf bs)) 8 [])
 inForm (Apa05 r) bs = true
 inForm (Other n) bs = true
+inForm (Message m) bs = messageForm m (bodyOf bs)

@@ -1,12 +1,12 @@
 -- The sentences of the Alpha 9500: frame, payload and checksum, and the records of 02, 03 and 05.
 use Prim.Native.Nat.{ℕ, _+_, _-_, _*_, _/_, _%_, _^_}
 use Prim.Native.Char.{code}
-use mathlib.Core.Bool.{Bool, true, false, _&&_, cond, not}
+use mathlib.Core.Bool.{Bool, true, false, _&&_, cond}
 use mathlib.Core.List.{List, [], _∷_, _++_}
 use lib.Dec.{eqb, leb, ltb}
 use lib.IntN.{ℤ, pos, negsuc, negℤ, natAbs}
 use lib.ListN.{length, take, drop, getD}
-use Rattle.rules.specs.Bytes.{ascii, oneOf, between, every, same, first, part}
+use Rattle.rules.specs.Bytes.{ascii, oneOf, between, every, same, first, part, textByte}
 use Rattle.rules.specs.Numbers.{isDigit, decimal, isHexDigit, hexNumber, withZeros, hexDigits}
 use Rattle.rules.specs.declared.Sentence02.{Sentence02}
 use Rattle.rules.specs.declared.Sentence03.{Sentence03}
@@ -43,7 +43,7 @@ longestSentence = longestPayload + 6
 -- A payload is 5 to 128 bytes from 20 to 7E, neither `$` nor `*`: `APA`, two digits, and then nothing or a comma and
 -- any further bytes.
 unfoldable pub isPayloadByte : ℕ → Bool
-isPayloadByte b = between 0x20 0x7E b && not (eqb b (code "$")) && not (eqb b (code "*"))
+isPayloadByte b = textByte (code "$") (code "*") b
 
 abbrev pub nothingOrComma : List ℕ → Bool
 nothingOrComma [] = true

@@ -1,13 +1,16 @@
-// What is read and written: the records of the three families, the frame that holds one of them,
+// What is read and written: the records of the four families, the frame that holds one of them,
 // and the answers of a reader and of a writer. The rules for them stand in specs/. Also the numbers of
 // documents 01 and 02 that more than one room needs, each here once.
 
-// The families: replies of an SPE amplifier, sentences of the Alpha 9500, commands to an SPE amplifier.
+// The families: replies of an SPE amplifier, sentences of the Alpha 9500, commands to an SPE amplifier, messages to and from
+// a KPA1500.
 pub const REPLIES: u8 = 1;
 
 pub const SENTENCES: u8 = 2;
 
 pub const COMMANDS: u8 = 3;
+
+pub const MESSAGES: u8 = 4;
 
 // The numbers for no.
 pub const NO_FAMILY: u8 = 1;
@@ -59,8 +62,45 @@ pub const LONGEST_SENTENCE: usize = 134;
 // How many values a status report has: those of its fields, of which 7 holds two, and its form.
 pub const STATUS_VALUES: usize = 21;
 
-// No frame of any family has fewer bytes: the shortest is an SPE packet with a code.
-pub const SHORTEST_FRAME: usize = PACKET_LENGTH;
+// The longest body of a message, and the shortest and the longest message: with the caret and the semicolon.
+pub const LONGEST_BODY: usize = 38;
+
+pub const SHORTEST_MESSAGE: usize = 3;
+
+pub const LONGEST_MESSAGE: usize = 40;
+
+// The listed letters of messages, each as one number: their bytes, the first the highest.
+pub const SN: u32 = 0x534E;
+
+pub const RV: u32 = 0x5256;
+
+pub const PWF: u32 = 0x505746;
+
+pub const PWI: u32 = 0x505749;
+
+pub const PWR: u32 = 0x505752;
+
+pub const PWD: u32 = 0x505744;
+
+pub const FR: u32 = 0x4652;
+
+pub const FQ: u32 = 0x4651;
+
+pub const FS: u32 = 0x4653;
+
+pub const HS: u32 = 0x4853;
+
+pub const CC: u32 = 0x4343;
+
+pub const FT: u32 = 0x4654;
+
+// How many numbers hold the letters of a message that is not listed, and how many letters each of them holds.
+pub const LETTER_WORDS: usize = 10;
+
+pub const WORD_LETTERS: usize = 4;
+
+// No frame of any family has fewer bytes: the shortest is a message with a single letter.
+pub const SHORTEST_FRAME: usize = SHORTEST_MESSAGE;
 
 // A status report of an SPE amplifier: fields 1 to 19 of document 01, of which 7 holds two, and which of its two forms it
 // has. Letters are kept as their ASCII bytes.
@@ -148,6 +188,53 @@ pub struct Sentence05 {
     pub lcmd: u8,
 }
 
+// The date and the time of a KPA1500's clock.
+pub struct Clock {
+    // 0 to 99, for 2000 to 2099
+    pub year: u8,
+    pub month: u8,
+    pub day: u8,
+    pub hour: u8,
+    pub minute: u8,
+    pub second: u8,
+}
+
+// Up to 38 capital letters, four to a number: their bytes, the first the highest. The number in which they end holds
+// those that are left, and the numbers behind it are 0.
+pub struct Letters {
+    pub first: u32,
+    pub second: u32,
+    pub third: u32,
+    pub fourth: u32,
+    pub fifth: u32,
+    pub sixth: u32,
+    pub seventh: u32,
+    pub eighth: u32,
+    pub ninth: u32,
+    pub tenth: u32,
+}
+
+// A message of the KPA1500. A question holds its letters, as one number; so does a response that is a number, beside that.
+// A version has two numbers. A tune starts or has ended. Letters that are not listed come with nothing else.
+pub enum Message {
+    Question(u32),
+    Number(u32, u32),
+    Version(u8, u8),
+    Clock(Clock),
+    Tune,
+    OtherLetters(Letters),
+}
+
+// What may stand behind the letters of a response: a number, with how many digits it has and its limit; a version; a date
+// and a time; nothing at all; and, behind letters that are not listed, anything.
+pub enum Behind {
+    ANumber(usize, u32),
+    AVersion,
+    AClock,
+    Nothing,
+    Anything,
+}
+
 // One good frame of any family. An acknowledgement and a command hold their code, another sentence
 // its number.
 pub enum Frame {
@@ -158,15 +245,19 @@ pub enum Frame {
     Apa03(Sentence03),
     Apa05(Sentence05),
     Other(u8),
+    Message(Message),
 }
 
-// The kind of a frame: an acknowledgement or a command with its code, a status report, or a sentence
-// with its number.
+// The kind of a frame: an acknowledgement or a command with its code, a status report, a sentence with its number, or
+// a question, a response or another message with its letters.
 pub enum Kind {
     OfAck(u8),
     OfStatus,
     OfCommand(u8),
     OfSentence(u8),
+    OfQuestion(u32),
+    OfResponse(u32),
+    OfLetters(Letters),
 }
 
 // The answer of a reader of one frame.

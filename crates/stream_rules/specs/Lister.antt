@@ -30,7 +30,7 @@ tooLong = 7
 abbrev pub longestCapture : ℕ
 longestCapture = 65536
 
--- So it has room for at most 10,922 frames.
+-- So it has room for at most 21,845 frames.
 abbrev pub longestList : ℕ
 longestList = longestCapture / shortestFrame
 

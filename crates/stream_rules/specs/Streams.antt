@@ -22,7 +22,7 @@ use Rattle.stream_rules.specs.declared.Turned.{Turned}
 abbrev pub wrap : ℕ → ℕ
 wrap n = n % 2 ^ 32
 
--- A reader holds one byte less than its family's longest frame: at most 75, 133 or 5.
+-- A reader holds one byte less than its family's longest frame: at most 75, 133, 5 or 39.
 abbrev pub holds : ℕ → ℕ
 holds family = longest family - 1
 

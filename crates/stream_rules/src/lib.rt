@@ -6,6 +6,15 @@ use rules::SHORTEST_FRAME;
 // The held places of a reader: one fewer than the longest frame of any family has bytes.
 pub const PLACES: usize = 133;
 
+// What a sentence and a message stand between: an opening byte; text bytes that are neither of the two, and no more than so
+// many; a closing byte; and so many bytes behind it.
+pub struct Brackets {
+    pub opening: u8,
+    pub closing: u8,
+    pub most: usize,
+    pub tail: usize,
+}
+
 // The longest capture, and the most frames that it has room for.
 pub const LONGEST_CAPTURE: usize = 65536;
 
