@@ -1,4 +1,5 @@
 // The checksum of an Alpha sentence, in the same pass as the test of its payload's bytes.
+use texts::text_byte;
 ghost use mathlib.Core.Path.{_≡_};
 ghost use Rattle.rules.specs.Sentences.{isPayloadByte};
 ghost use Rattle.checksums.specs.Sums.{sumsIn};
@@ -39,5 +40,5 @@ pub fn fletcher(p: &[u8]) -> Sums
 pub fn payload_byte(b: u8) -> bool
     ensures { λ r. ⌜ r ≡ isPayloadByte b ⌝ }
 {
-    (0x20 <= b) & (b <= 0x7E) & (b != b'$') & (b != b'*')
+    text_byte(b'$', b'*', b)
 }

@@ -15,12 +15,22 @@ use Rattle.rules.specs.Sentences.{isSentence, payloadOf, numberOf, textsOf, is0
 use Rattle.rules.specs.Answers.{readTexts, readFamily2, readOne, notGood, kindOf, familyOf, allowed, bytesOf, hasWriter}
 use Rattle.rules.specs.Form.{inForm}
 use Rattle.rules.specs.declared.Frame.{Frame}
-use Rattle.rules.specs.declared.Frame.the-variants.{Ack, Status, Command, Apa02, Apa03, Apa05, Other}
+use Rattle.rules.specs.declared.Frame.the-variants.{Ack, Status, Command, Apa02, Apa03, Apa05, Other, Message}
+use Rattle.rules.specs.declared.Message as MessageType
+use Rattle.rules.specs.declared.Message.the-variants.{Question, Number, Version, Clock, Tune, OtherLetters}
 use Rattle.rules.specs.declared.Reading.{Reading}
 use Rattle.rules.specs.declared.Reading.the-variants.{Good, Refused}
 use Rattle.frame_laws.proofs.Exact.{IsNumbered, textsIn, IsFrame}
 use Rattle.frame_laws.proofs.Sentences.{payload, payload-good, payload-texts, payload-number, payload-parts, payload-back, frame-sentence, sentence-payload, sentence-frame}
 use Rattle.frame_laws.proofs.SentenceRecords.{SentenceKind, kind02, kind03, kind05}
+
+message-family : (m : MessageType.Message) → familyOf (kindOf (Message m)) ≡ 4
+message-family (Question letters) = refl
+message-family (Number letters n) = refl
+message-family (Version a b) = refl
+message-family (Clock c) = refl
+message-family Tune = refl
+message-family (OtherLetters w) = refl
 
 -- What an answer of family 2 tells of the bytes: a frame, that it is one of this family and that they are it; a refusal,
 -- that its number is 8.
@@ -84,6 +94,7 @@ family2-exact bs f = (λ e. subst (ReadsAs bs) e (tells bs), λ h. back f (h .0)
     back (Apa02 r) alpha h = numbered bs 2 (h .0) ∙ rw (h .2) (reads02 (textsIn bs) (h .1))
     back (Apa03 r) alpha h = numbered bs 3 (h .0) ∙ rw (h .2) (reads03 (textsIn bs) (h .1))
     back (Apa05 r) alpha h = numbered bs 5 (h .0) ∙ rw (h .2) (reads05 (textsIn bs) (h .1))
+    back (Message m) alpha h = absurd h
     back (Other n) alpha h = numbered bs n (h .0) ∙ readsOther (textsIn bs) n (h .1) (h .2) (h .3)
 
 -- where they are no such sentence, and only there, they are refused, with number 8.
@@ -137,6 +148,7 @@ family2-back (Apa03 r) alpha fits =
     reads-written kind03 3 (lit< tt) r fits ∙ reads03 (texts03 r) (kind03 .good r fits) ∙ ap (λ x. Good (Apa03 x)) (kind03 .back r fits)
 family2-back (Apa05 r) alpha fits =
     reads-written kind05 5 (lit< tt) r fits ∙ reads05 (texts05 r) (kind05 .good r fits) ∙ ap (λ x. Good (Apa05 x)) (kind05 .back r fits)
+family2-back (Message m) alpha fits = absurd (omega (arith, message-family m, alpha))
 family2-back (Other n) alpha fits = absurd (false≢true fits)
 
 -- What was read and has a writer may be written,
@@ -154,6 +166,7 @@ family2-allowed bs (Apa03 r) e writer =
 family2-allowed bs (Apa05 r) e writer =
     let h = family2-exact bs (Apa05 r) .0 e .1 in
     ap inRange05 (h .2) ∙ kind05 .range (textsIn bs) (h .1)
+family2-allowed bs (Message m) e writer = absurd (omega (arith, message-family m, family2-exact bs (Message m) .0 e .0))
 family2-allowed bs (Other n) e writer = absurd (false≢true writer)
 
 -- and gives its own bytes if, and only if, it stood in the writer's form.
@@ -171,4 +184,5 @@ family2-again bs (Apa03 r) e writer =
 family2-again bs (Apa05 r) e writer =
     let h = family2-exact bs (Apa05 r) .0 e .1 in
     rw (h .2) (written-again kind05 5 (lit< tt) bs (h .0 .0) (h .0 .1) (h .1))
+family2-again bs (Message m) e writer = absurd (omega (arith, message-family m, family2-exact bs (Message m) .0 e .0))
 family2-again bs (Other n) e writer = absurd (false≢true writer)

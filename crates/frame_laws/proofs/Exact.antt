@@ -8,7 +8,7 @@ use Rattle.rules.specs.Codes.{isCode, isAckCode, command, ack}
 use Rattle.rules.specs.Status.{isStatus, statusIn}
 use Rattle.rules.specs.Sentences.{isSentence, payloadOf, numberOf, textsOf, is02, is03, is05, sentence02, sentence03, sentence05}
 use Rattle.rules.specs.declared.Frame.{Frame}
-use Rattle.rules.specs.declared.Frame.the-variants.{Ack, Status, Command, Apa02, Apa03, Apa05, Other}
+use Rattle.rules.specs.declared.Frame.the-variants.{Ack, Status, Command, Apa02, Apa03, Apa05, Other, Message}
 
 -- The bytes are a sentence of this number; and the texts of a sentence.
 abbrev pub IsNumbered : List ℕ → ℕ → Type 0
@@ -27,4 +27,5 @@ IsFrame bs (Command c) = (bs ≡ command c) × (isCode c ≡ true)
 IsFrame bs (Apa02 r) = IsNumbered bs 2 × (is02 (textsIn bs) ≡ true) × (r ≡ sentence02 (textsIn bs))
 IsFrame bs (Apa03 r) = IsNumbered bs 3 × (is03 (textsIn bs) ≡ true) × (r ≡ sentence03 (textsIn bs))
 IsFrame bs (Apa05 r) = IsNumbered bs 5 × (is05 (textsIn bs) ≡ true) × (r ≡ sentence05 (textsIn bs))
+IsFrame bs (Message m) = ⊥
 IsFrame bs (Other n) = IsNumbered bs n × (n ≢ 2) × (n ≢ 3) × (n ≢ 5)

@@ -1,5 +1,6 @@
 // The reader of one frame: a family number and lent bytes give the frame, or a refusal.
 use rules::COMMANDS;
+use rules::MESSAGES;
 use rules::NO_FAMILY;
 use rules::REPLIES;
 use rules::Reading;
@@ -15,6 +16,7 @@ pub fn read_frame(family: u8, bytes: &[u8]) -> Reading
         REPLIES => spe::read_reply(bytes),
         SENTENCES => alpha::read_sentence(bytes),
         COMMANDS => spe::read_command(bytes),
+        MESSAGES => kpa::read_message(bytes),
         _ => Reading::Refused(NO_FAMILY),
     }
 }

@@ -2,13 +2,16 @@
 // has no room is left out.
 use lines::hex_byte;
 use lines::text;
+use records::of_letters;
 use rules::Kind;
 ghost use mathlib.Core.List.{[], _∷_};
 ghost use Rattle.rules.specs.Numbers.{hexDigits};
 ghost use Rattle.lines.specs.Lines.{Types};
 ghost use Rattle.listings.specs.Kinds.{sentenceTexts, kindTexts};
+ghost use Rattle.rules.specs.Messages.{wordLetters};
+ghost use mathlib.Core.List.{map};
 
-// What kind of frame it is: `ack XX`, `status`, `command XX` or `APAnn`.
+// What kind of frame it is: `ack XX`, `status`, `command XX`, `APAnn`, or the letters of a message.
 pub fn kind(line: &mut [u8], at: usize, of: Kind) -> usize
     ensures { λ r. ⌜ Types (kindTexts of) (now (line .entry)) at (now (line .exit)) r ⌝ }
 {
@@ -17,6 +20,8 @@ pub fn kind(line: &mut [u8], at: usize, of: Kind) -> usize
         Kind::OfStatus => text(line, at, b"status"),
         Kind::OfCommand(code) => coded(line, at, b"command ", code),
         Kind::OfSentence(n) => sentence(line, at, n),
+        Kind::OfQuestion(letters) | Kind::OfResponse(letters) => word(line, at, letters),
+        Kind::OfLetters(w) => words(line, at, &of_letters(w)),
     }
 }
 
@@ -35,4 +40,26 @@ fn sentence(line: &mut [u8], at: usize, n: u8) -> usize
     let two = n % 100;
     let name = [b'A', b'P', b'A', b'0' + two / 10, b'0' + two % 10];
     text(line, at, &name)
+}
+
+// The letters that a number holds.
+fn word(line: &mut [u8], at: usize, letters: u32) -> usize
+    ensures { λ r. ⌜ Types (wordLetters letters ∷ []) (now (line .entry)) at (now (line .exit)) r ⌝ }
+{
+    let n = kpa::word_length(letters);
+    let bytes = kpa::word_bytes(letters);
+    text(line, at, &bytes[4 - n..])
+}
+
+// Those that numbers hold, one behind the other.
+fn words(line: &mut [u8], at: usize, letters: &[u32]) -> usize
+    ensures { λ r. ⌜ Types (map wordLetters (now (letters .entry))) (now (line .entry)) at (now (line .exit)) r ⌝ }
+{
+    let mut place = at;
+    let mut i = 0;
+    while i < letters.len() {
+        place = word(line, place, letters[i]);
+        i += 1;
+    }
+    place
 }

@@ -4,8 +4,14 @@ use crate::fields::of_02;
 use crate::fields::of_03;
 use crate::fields::of_05;
 use crate::fields::of_status;
+use crate::messages::of_clock;
+use crate::messages::of_letters;
+use rules::CC;
+use rules::FT;
 use rules::Frame;
 use rules::Kind;
+use rules::Message;
+use rules::RV;
 use rules::STATUS_VALUES;
 use rules::Sentence03;
 ghost use mathlib.Core.Path.{_≡_};
@@ -13,7 +19,7 @@ ghost use mathlib.Core.List.{[], map};
 ghost use lib.IntN.{pos};
 ghost use lib.ListN.{length};
 ghost use Prim.Native.Nat.{_≤_};
-ghost use Rattle.rules.specs.declared.Frame.the-variants.{Apa03};
+ghost use Rattle.rules.specs.declared.Frame.the-variants.{Apa03, Message as FrameOf};
 ghost use Rattle.records.specs.Told.{valuePlaces, withValues, fieldsOf, FieldsTold};
 
 // How many values a frame has at most: those of a status report.
@@ -70,6 +76,20 @@ fn fields_of_03(r: Sentence03) -> Fields
     }
 }
 
+// The fields of a message: what a response tells, and the numbers that hold other letters.
+fn fields_of_message(m: Message) -> Fields
+    ensures { λ x. ⌜ x ≡ fieldsOf (FrameOf m) ⌝ }
+{
+    match m {
+        Message::Question(letters) => without_values(Kind::OfQuestion(letters)),
+        Message::Number(letters, n) => with_numbers(Kind::OfResponse(letters), &[n]),
+        Message::Version(a, b) => with_numbers(Kind::OfResponse(RV), &[a as u32, b as u32]),
+        Message::Clock(c) => with_numbers(Kind::OfResponse(CC), &of_clock(c)),
+        Message::Tune => without_values(Kind::OfResponse(FT)),
+        Message::OtherLetters(w) => with_numbers(Kind::OfLetters(w), &of_letters(w)),
+    }
+}
+
 // The fields of a frame.
 pub fn fields_of(frame: Frame) -> Fields
     ensures { λ r. ⌜ FieldsTold frame r ⌝ }
@@ -82,5 +102,6 @@ pub fn fields_of(frame: Frame) -> Fields
         Frame::Apa03(r) => fields_of_03(r),
         Frame::Apa05(r) => with_numbers(Kind::OfSentence(5), &of_05(r)),
         Frame::Other(n) => without_values(Kind::OfSentence(n)),
+        Frame::Message(m) => fields_of_message(m),
     }
 }

@@ -9,7 +9,7 @@ use lib.ListN.{replicate}
 use Rattle.rules.specs.Bytes.{ascii}
 use Rattle.rules.specs.Answers.{kindOf, statusValues, values, allowed, bytesOf}
 use Rattle.rules.specs.declared.Kind.{Kind}
-use Rattle.rules.specs.declared.Kind.the-variants.{OfAck, OfStatus, OfCommand, OfSentence}
+use Rattle.rules.specs.declared.Kind.the-variants.{OfAck, OfStatus, OfCommand, OfSentence, OfQuestion, OfResponse, OfLetters}
 use Rattle.rules.specs.declared.Frame.{Frame}
 use Rattle.lines.specs.Lines.{decimalText, spacedTexts, hexTexts}
 use Rattle.listings.specs.Kinds.{kindTexts}
@@ -23,21 +23,35 @@ abbrev pub letterOf : ℤ → ℕ
 letterOf v = natAbs v % 256
 
 -- How a field is shown: N for a number; K for the number of a model, as 20K; L for a letter behind a space; J for a letter
--- that is joined to what stands before it.
+-- that is joined to what stands before it; S for one that is silent, since the kind has said it.
 unfoldable pub fieldTexts : ℕ → ℤ → List (List ℕ)
 fieldTexts form v =
     cond (eqb form (code "K")) (signedTexts v ++ ascii "K" ∷ [])
     (cond (eqb form (code "L")) ((code " " ∷ letterOf v ∷ []) ∷ [])
+    (cond (eqb form (code "S")) []
     (cond (eqb form (code "J")) ((letterOf v ∷ []) ∷ [])
-    (signedTexts v)))
+    (signedTexts v))))
 
 -- The forms of the values of each kind, in their order: a status report has letters, and the tuner's is joined to the
--- antenna. All values of the others are numbers.
+-- antenna. The values of other letters are silent. All values of the others are numbers.
 unfoldable pub formsOf : Kind → List ℕ
 formsOf (OfAck c) = replicate statusValues (code "N")
 formsOf OfStatus = ascii "KLLLNNNJNLNNNNNNNNLLN"
 formsOf (OfCommand c) = replicate statusValues (code "N")
 formsOf (OfSentence n) = replicate statusValues (code "N")
+formsOf (OfQuestion letters) = replicate statusValues (code "N")
+formsOf (OfResponse letters) = replicate statusValues (code "N")
+formsOf (OfLetters w) = replicate statusValues (code "S")
+
+-- A question has a question mark in the place of values.
+unfoldable pub askedTexts : Kind → List (List ℕ)
+askedTexts (OfAck c) = []
+askedTexts OfStatus = []
+askedTexts (OfCommand c) = []
+askedTexts (OfSentence n) = []
+askedTexts (OfQuestion letters) = ascii " ?" ∷ []
+askedTexts (OfResponse letters) = []
+askedTexts (OfLetters w) = []
 
 -- the values in these forms, one behind the other
 unfoldable pub shownTexts : List ℕ → List ℤ → List (List ℕ)
@@ -50,4 +64,4 @@ unfoldable pub writtenTexts : Frame → List (List ℕ)
 writtenTexts f = cond (allowed f) (hexTexts (bytesOf f)) (ascii "-" ∷ [])
 
 unfoldable pub frameTexts : Frame → List (List ℕ)
-frameTexts f = kindTexts (kindOf f) ++ shownTexts (formsOf (kindOf f)) (values f) ++ (ascii " | " ∷ []) ++ writtenTexts f
+frameTexts f = kindTexts (kindOf f) ++ askedTexts (kindOf f) ++ shownTexts (formsOf (kindOf f)) (values f) ++ (ascii " | " ∷ []) ++ writtenTexts f

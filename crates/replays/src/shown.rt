@@ -34,6 +34,7 @@ pub fn frame(line: &mut [u8], at: usize, frame: Frame) -> usize
     let values = told.values;
     let forms = values::forms_of(of);
     let place = kind(line, at, of);
+    let place = values::asked(line, place, of);
     let place = values::shown(line, place, &forms, &values[..count]);
     let place = text(line, place, b" | ");
     written(line, place, frame)

@@ -9,9 +9,10 @@ ghost use lib.IntN.{natAbs};
 ghost use lib.ListN.{length};
 ghost use Prim.Native.Nat.{_≤_};
 ghost use Rattle.lines.specs.Lines.{Types};
-ghost use Rattle.replays.specs.Texts.{signedTexts, letterOf, fieldTexts, formsOf, shownTexts};
+ghost use Rattle.replays.specs.Texts.{signedTexts, letterOf, fieldTexts, formsOf, askedTexts, shownTexts};
 
 // The forms of a status report's values: a number, that of a model, a letter, and a letter joined to what stands before it.
+// (Those of other letters are silent: the kind has said them.)
 const STATUS_FORMS: [u8; VALUE_PLACES] = [
     b'K',
     b'L',
@@ -42,7 +43,27 @@ pub(crate) fn forms_of(kind: Kind) -> [u8; VALUE_PLACES]
 {
     match kind {
         Kind::OfStatus => STATUS_FORMS,
-        Kind::OfAck(_) | Kind::OfCommand(_) | Kind::OfSentence(_) => [b'N'; VALUE_PLACES],
+        Kind::OfLetters(_) => [b'S'; VALUE_PLACES],
+        Kind::OfAck(_)
+        | Kind::OfCommand(_)
+        | Kind::OfSentence(_)
+        | Kind::OfQuestion(_)
+        | Kind::OfResponse(_) => [b'N'; VALUE_PLACES],
+    }
+}
+
+// A question mark behind a space, where it is a question.
+pub(crate) fn asked(line: &mut [u8], at: usize, kind: Kind) -> usize
+    ensures { λ r. ⌜ Types (askedTexts kind) (now (line .entry)) at (now (line .exit)) r ⌝ }
+{
+    match kind {
+        Kind::OfQuestion(_) => text(line, at, b" ?"),
+        Kind::OfAck(_)
+        | Kind::OfStatus
+        | Kind::OfCommand(_)
+        | Kind::OfSentence(_)
+        | Kind::OfResponse(_)
+        | Kind::OfLetters(_) => at,
     }
 }
 
@@ -85,6 +106,9 @@ fn field(line: &mut [u8], at: usize, form: u8, v: i64) -> usize
     if form == b'L' {
         let spaced_letter = [b' ', letter_of(v)];
         return text(line, at, &spaced_letter);
+    }
+    if form == b'S' {
+        return at;
     }
     if form == b'J' {
         let letter = [letter_of(v)];

@@ -13,7 +13,13 @@ use Rattle.rules.specs.declared.Status as StatusType
 use Rattle.rules.specs.declared.Sentence02.{Sentence02}
 use Rattle.rules.specs.declared.Sentence03.{Sentence03}
 use Rattle.rules.specs.declared.Sentence05.{Sentence05}
-use Rattle.rules.specs.declared.Frame.the-variants.{Ack, Status, Command, Apa02, Apa03, Apa05}
+use Rattle.rules.specs.Messages.{behind}
+use Rattle.rules.specs.declared.Clock as ClockType
+use Rattle.rules.specs.declared.Behind.{Behind}
+use Rattle.rules.specs.declared.Behind.the-variants.{ANumber, AVersion, AClock, Alone, Anything}
+use Rattle.rules.specs.declared.Message.{Message}
+use Rattle.rules.specs.declared.Message.the-variants.{Question, Number, Version, Clock, Tune}
+use Rattle.rules.specs.declared.Frame.the-variants.{Ack, Status, Command, Apa02, Apa03, Apa05, Message as MessageOf}
 use Rattle.rules.specs.declared.Written.{Written}
 use Rattle.rules.specs.declared.Written.the-variants.{Length, Refused}
 use Rattle.rows.specs.Rows.{refusalOf}
@@ -65,6 +71,15 @@ isRow03 vs = leb 9 (length vs) && every aWord (take 8 vs) && aTemperature (value
 
 unfoldable pub isRow05 : List ℤ → Bool
 isRow05 vs = leb 11 (length vs) && every aByte (take 11 vs)
+
+unfoldable pub isNumberRow : List ℤ → Bool
+isNumberRow vs = leb 1 (length vs) && every aWord (take 1 vs)
+
+unfoldable pub isVersionRow : List ℤ → Bool
+isVersionRow vs = leb 2 (length vs) && every aByte (take 2 vs)
+
+unfoldable pub isClockRow : List ℤ → Bool
+isClockRow vs = leb 6 (length vs) && every aByte (take 6 vs)
 
 -- The records, with their fields in the order in which a reader gives their values.
 unfoldable pub statusFrom : List ℤ → StatusType.Status
@@ -137,6 +152,16 @@ from05 vs = record {
   lcmd = byteOf (valueAt vs 10);
 }
 
+unfoldable pub clockFrom : List ℤ → ClockType.Clock
+clockFrom vs = record {
+  year = byteOf (valueAt vs 0);
+  month = byteOf (valueAt vs 1);
+  day = byteOf (valueAt vs 2);
+  hour = byteOf (valueAt vs 3);
+  minute = byteOf (valueAt vs 4);
+  second = byteOf (valueAt vs 5);
+}
+
 -- What is given: a frame, or nothing, where no record can hold the values or there is no such kind.
 unfoldable pub sentenceGiven : ℕ → List ℤ → Given
 sentenceGiven number vs =
@@ -145,13 +170,28 @@ sentenceGiven number vs =
     (cond (eqb number 5) (cond (isRow05 vs) (AFrame (Apa05 (from05 vs))) Nothing)
     Nothing))
 
+abbrev pub givenIf : Bool → Message → Given
+givenIf fits m = cond fits (AFrame (MessageOf m)) Nothing
+
+abbrev pub behindGiven : Behind → ℕ → List ℤ → Given
+behindGiven (ANumber width limit) letters vs = givenIf (isNumberRow vs) (Number letters (wordOf (valueAt vs 0)))
+behindGiven AVersion letters vs = givenIf (isVersionRow vs) (Version (byteOf (valueAt vs 0)) (byteOf (valueAt vs 1)))
+behindGiven AClock letters vs = givenIf (isClockRow vs) (Clock (clockFrom vs))
+behindGiven Alone letters vs = AFrame (MessageOf Tune)
+behindGiven Anything letters vs = Nothing
+
+unfoldable pub responseGiven : ℕ → List ℤ → Given
+responseGiven letters vs = behindGiven (behind letters) letters vs
+
 unfoldable pub frameGiven : ℕ → ℕ → List ℤ → Given
 frameGiven kind code vs =
     cond (eqb kind 1) (AFrame (Ack code))
     (cond (eqb kind 2) (cond (isStatusRow vs) (AFrame (Status (statusFrom vs))) Nothing)
     (cond (eqb kind 3) (AFrame (Command code))
     (cond (eqb kind 4) (sentenceGiven code vs)
-    Nothing)))
+    (cond (eqb kind 7) (AFrame (MessageOf (Question code)))
+    (cond (eqb kind 8) (responseGiven code vs)
+    Nothing)))))
 
 -- Whether what is given is allowed, its refusal where it is not, and its bytes. Nothing is refused as a record is that is
 -- not allowed.

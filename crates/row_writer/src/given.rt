@@ -7,6 +7,7 @@ use crate::fits::fits_signed;
 use crate::fits::temperature_at;
 use crate::fits::value_at;
 use crate::fits::word_at;
+use rules::Clock;
 use rules::Frame;
 use rules::STATUS_VALUES;
 use rules::Sentence02;
@@ -14,7 +15,7 @@ use rules::Sentence03;
 use rules::Sentence05;
 use rules::Status;
 ghost use mathlib.Core.Path.{_≡_};
-ghost use Rattle.row_writer.specs.Given.{isStatusRow, isRow02, isRow03, isRow05, statusFrom, from02, from03, from05};
+ghost use Rattle.row_writer.specs.Given.{isStatusRow, isRow02, isRow03, isRow05, isNumberRow, isVersionRow, isClockRow, statusFrom, from02, from03, from05, clockFrom};
 
 // What a caller gives: a frame, or nothing, where no record can hold the values or there is no such kind.
 pub enum Given {
@@ -57,6 +58,46 @@ pub(crate) fn is_row05(values: &[i64]) -> bool
         return false;
     }
     fit(&values[..11], BYTE)
+}
+
+pub(crate) fn is_number_row(values: &[i64]) -> bool
+    ensures { λ r. ⌜ r ≡ isNumberRow (now (values .entry)) ⌝ }
+{
+    if values.len() < 1 {
+        return false;
+    }
+    fit(&values[..1], WORD)
+}
+
+pub(crate) fn is_version_row(values: &[i64]) -> bool
+    ensures { λ r. ⌜ r ≡ isVersionRow (now (values .entry)) ⌝ }
+{
+    if values.len() < 2 {
+        return false;
+    }
+    fit(&values[..2], BYTE)
+}
+
+pub(crate) fn is_clock_row(values: &[i64]) -> bool
+    ensures { λ r. ⌜ r ≡ isClockRow (now (values .entry)) ⌝ }
+{
+    if values.len() < 6 {
+        return false;
+    }
+    fit(&values[..6], BYTE)
+}
+
+pub(crate) fn clock_from(values: &[i64]) -> Clock
+    ensures { λ r. ⌜ r ≡ clockFrom (now (values .entry)) ⌝ }
+{
+    Clock {
+        year: byte_at(values, 0),
+        month: byte_at(values, 1),
+        day: byte_at(values, 2),
+        hour: byte_at(values, 3),
+        minute: byte_at(values, 4),
+        second: byte_at(values, 5),
+    }
 }
 
 pub(crate) fn status_from(values: &[i64]) -> Status

@@ -3,20 +3,31 @@
 mod fits;
 mod given;
 
+use crate::fits::byte_at;
+use crate::fits::word_at;
 use crate::given::Given;
+use crate::given::clock_from;
 use crate::given::from02;
 use crate::given::from03;
 use crate::given::from05;
+use crate::given::is_clock_row;
+use crate::given::is_number_row;
 use crate::given::is_row02;
 use crate::given::is_row03;
 use crate::given::is_row05;
 use crate::given::is_status_row;
+use crate::given::is_version_row;
 use crate::given::status_from;
+use records::behind_letters;
 use rows::ACK_ROW;
 use rows::COMMAND_ROW;
+use rows::QUESTION_ROW;
+use rows::RESPONSE_ROW;
 use rows::SENTENCE_ROW;
 use rows::STATUS_ROW;
+use rules::Behind;
 use rules::Frame;
+use rules::Message;
 use rules::NO_CODE;
 use rules::NO_RECORD;
 use rules::Written;
@@ -26,7 +37,7 @@ ghost use lib.Dec.{eqb, ltb};
 ghost use Rattle.rules.specs.Answers.{Writes, noRoom, kindOf, allowed, notAllowed, bytesOf, saidToWrite};
 ghost use Rattle.rules.specs.Sentences.{enableBytes};
 ghost use Rattle.rows.specs.Rows.{refusalOf};
-ghost use Rattle.row_writer.specs.Given.{sentenceGiven, frameGiven, allowedGiven, refusalGiven, bytesGiven, lengthOr, WritesNumbers, WritesGiven};
+ghost use Rattle.row_writer.specs.Given.{sentenceGiven, responseGiven, frameGiven, allowedGiven, refusalGiven, bytesGiven, lengthOr, WritesNumbers, WritesGiven};
 
 // The refusal of a code that is none, as a C program has it.
 const IS_NO_CODE: u32 = NO_CODE as u32;
@@ -43,6 +54,7 @@ pub fn write_frame(f: Frame, out: &mut [u8]) -> Written
         Frame::Apa03(r) => alpha_writer::write_03(r, out),
         Frame::Apa05(r) => alpha_writer::write_05(r, out),
         Frame::Other(_) => Written::Refused(NO_RECORD),
+        Frame::Message(m) => kpa_writer::write_message(m, out),
     }
 }
 
@@ -70,6 +82,35 @@ fn sentence_given(number: u32, values: &[i64]) -> Given
     Given::Nothing
 }
 
+// The response with these letters, where the row fits what may stand behind them.
+fn response_given(letters: u32, values: &[i64]) -> Given
+    ensures { λ r. ⌜ r ≡ responseGiven letters (now (values .entry)) ⌝ }
+{
+    match behind_letters(letters) {
+        Behind::ANumber(_, _) => {
+            if is_number_row(values) {
+                return Given::AFrame(Frame::Message(Message::Number(letters, word_at(values, 0))));
+            }
+            Given::Nothing
+        }
+        Behind::AVersion => {
+            if is_version_row(values) {
+                let version = Message::Version(byte_at(values, 0), byte_at(values, 1));
+                return Given::AFrame(Frame::Message(version));
+            }
+            Given::Nothing
+        }
+        Behind::AClock => {
+            if is_clock_row(values) {
+                return Given::AFrame(Frame::Message(Message::Clock(clock_from(values))));
+            }
+            Given::Nothing
+        }
+        Behind::Alone => Given::AFrame(Frame::Message(Message::Tune)),
+        Behind::Anything => Given::Nothing,
+    }
+}
+
 // The frame of a kind. A code that a frame holds has to be a byte.
 fn frame_given(kind: u32, code: u32, values: &[i64]) -> Given
     requires { ⌜ (ltb 255 code && (eqb kind 1 || eqb kind 3)) ≡ false ⌝ }
@@ -89,6 +130,12 @@ fn frame_given(kind: u32, code: u32, values: &[i64]) -> Given
     }
     if kind == SENTENCE_ROW {
         return sentence_given(code, values);
+    }
+    if kind == QUESTION_ROW {
+        return Given::AFrame(Frame::Message(Message::Question(code)));
+    }
+    if kind == RESPONSE_ROW {
+        return response_given(code, values);
     }
     Given::Nothing
 }

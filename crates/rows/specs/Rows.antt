@@ -12,7 +12,7 @@ use lib.ListN.{length, take, drop}
 use Rattle.rules.specs.Answers.{Says, no, yes, noRoom, kindOf, statusValues, values}
 use Rattle.rules.specs.declared.Frame.{Frame}
 use Rattle.rules.specs.declared.Kind.{Kind}
-use Rattle.rules.specs.declared.Kind.the-variants.{OfAck, OfStatus, OfCommand, OfSentence}
+use Rattle.rules.specs.declared.Kind.the-variants.{OfAck, OfStatus, OfCommand, OfSentence, OfQuestion, OfResponse, OfLetters}
 use Rattle.rules.specs.declared.Reading.{Reading}
 use Rattle.rules.specs.declared.Reading.the-variants.{Good, Refused as NotGood}
 use Rattle.stream_rules.specs.declared.Answer.{Answer}
@@ -37,6 +37,15 @@ moreRow = 5
 abbrev pub doneRow : ℕ
 doneRow = 6
 
+abbrev pub questionRow : ℕ
+questionRow = 7
+
+abbrev pub responseRow : ℕ
+responseRow = 8
+
+abbrev pub otherRow : ℕ
+otherRow = 9
+
 -- the numbers before a frame's values, and those of the longest row, a status report's
 abbrev pub headingLength : ℕ
 headingLength = 6
@@ -49,13 +58,20 @@ kindRow (OfAck c) = ackRow
 kindRow OfStatus = statusRow
 kindRow (OfCommand c) = commandRow
 kindRow (OfSentence n) = sentenceRow
+kindRow (OfQuestion letters) = questionRow
+kindRow (OfResponse letters) = responseRow
+kindRow (OfLetters w) = otherRow
 
--- the code of an acknowledgement or a command, the number of a sentence; a status report has neither
+-- the code of an acknowledgement or a command, the number of a sentence, the letters of a question or a response, which are a
+-- number too; a status report has none of these, and letters that are not listed stand among the values
 abbrev pub codeOf : Kind → ℕ
 codeOf (OfAck c) = c
 codeOf OfStatus = 0
 codeOf (OfCommand c) = c
 codeOf (OfSentence n) = n
+codeOf (OfQuestion letters) = letters
+codeOf (OfResponse letters) = letters
+codeOf (OfLetters w) = 0
 
 -- Counts are laid modulo 2^63: nothing that C can lend is that long.
 abbrev pub counted : ℕ → ℤ

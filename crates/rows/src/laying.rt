@@ -29,6 +29,12 @@ pub const MORE_ROW: u32 = 5;
 
 pub const DONE_ROW: u32 = 6;
 
+pub const QUESTION_ROW: u32 = 7;
+
+pub const RESPONSE_ROW: u32 = 8;
+
+pub const OTHER_ROW: u32 = 9;
+
 // How many numbers stand before a frame's values, and how many the longest row has: that of a status report.
 pub const HEADING_LENGTH: usize = 6;
 
@@ -65,6 +71,9 @@ fn kind_row(kind: Kind) -> u32
         Kind::OfStatus => STATUS_ROW,
         Kind::OfCommand(_) => COMMAND_ROW,
         Kind::OfSentence(_) => SENTENCE_ROW,
+        Kind::OfQuestion(_) => QUESTION_ROW,
+        Kind::OfResponse(_) => RESPONSE_ROW,
+        Kind::OfLetters(_) => OTHER_ROW,
     }
 }
 
@@ -77,6 +86,9 @@ fn code_of(kind: Kind) -> u32
         Kind::OfStatus => 0,
         Kind::OfCommand(code) => code as u32,
         Kind::OfSentence(n) => n as u32,
+        Kind::OfQuestion(letters) => letters,
+        Kind::OfResponse(letters) => letters,
+        Kind::OfLetters(_) => 0,
     }
 }
 

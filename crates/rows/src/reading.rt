@@ -6,7 +6,9 @@ use crate::laying::lay_heading;
 use crate::laying::lay_reading;
 use crate::laying::lay_values;
 use alpha::read_sentence;
+use kpa::read_message;
 use rules::COMMANDS;
+use rules::MESSAGES;
 use rules::NO_FAMILY;
 use rules::NOT_GOOD;
 use rules::REPLIES;
@@ -91,6 +93,7 @@ pub fn read_row(
         REPLIES => reply_row(bytes, taken, start, skipped, numbers),
         SENTENCES => lay_reading(read_sentence(bytes), taken, start, skipped, length, numbers),
         COMMANDS => command_row(bytes, taken, start, skipped, numbers),
+        MESSAGES => lay_reading(read_message(bytes), taken, start, skipped, length, numbers),
         _ => IS_NO_FAMILY,
     }
 }

@@ -12,5 +12,6 @@ pub use parts::one_of;
 pub use parts::same_bytes;
 pub use parts::sum;
 pub use parts::text;
+pub use parts::text_byte;
 pub use parts::wide;
 pub use parts::within;

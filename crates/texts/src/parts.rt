@@ -2,7 +2,7 @@
 // bounds, and the sum of a packet. None asks anything of its caller.
 ghost use mathlib.Core.Path.{_≡_};
 ghost use Prim.Native.Nat.{_%_, _^_, max};
-ghost use Rattle.rules.specs.Bytes.{oneOf, same, part, PartOf, total};
+ghost use Rattle.rules.specs.Bytes.{oneOf, same, part, PartOf, textByte, total};
 ghost use Rattle.rules.specs.Answers.{isFamily};
 ghost use Rattle.texts.specs.Parts.{placeIn, inBounds};
 
@@ -56,6 +56,13 @@ pub fn same_bytes(s: &[u8], t: &[u8]) -> bool
         i += 1;
     }
     true
+}
+
+// Whether b is from 20 to 7E, and neither of two bytes.
+pub fn text_byte(a: u8, z: u8, b: u8) -> bool
+    ensures { λ r. ⌜ r ≡ textByte a z b ⌝ }
+{
+    (0x20 <= b) & (b <= 0x7E) & (b != a) & (b != z)
 }
 
 // Whether each byte is from the least to the most for its place.

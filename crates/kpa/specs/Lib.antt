@@ -1,0 +1,2 @@
+-- The bytes of a number that holds letters.
+pub mod Words

@@ -1,0 +1,103 @@
+// The letters of a message: the run of them that a body begins with, and letters as numbers, four to each.
+use rules::Letters;
+use texts::text;
+ghost use mathlib.Core.Path.{_≡_};
+ghost use mathlib.Core.List.{map};
+ghost use Prim.Native.Nat.{_≤_, _/_, _%_, _^_};
+ghost use lib.ListN.{length};
+ghost use Rattle.rules.specs.Messages.{isLetter, capital, letterRun, word, wordLetters, asLetters};
+ghost use Rattle.kpa.specs.Words.{wordBytes};
+
+// Whether b is a letter, in either case.
+pub(crate) fn is_letter(b: u8) -> bool
+    ensures { λ r. ⌜ r ≡ isLetter b ⌝ }
+{
+    ((b'A' <= b) & (b <= b'Z')) | ((b'a' <= b) & (b <= b'z'))
+}
+
+// The capital of a small letter; any other byte as it is.
+fn capital_of(b: u8) -> u8
+    ensures { λ r. ⌜ r ≡ capital b ⌝ }
+{
+    if (b'a' <= b) & (b <= b'z') {
+        return b - 32;
+    }
+    b
+}
+
+// How many letters the bytes begin with.
+pub(crate) fn letter_run(s: &[u8]) -> usize
+    ensures { λ r. ⌜ r ≡ length (letterRun (now (s .entry))) ⌝ }
+{
+    let mut n = 0;
+    while n < s.len() {
+        if !is_letter(s[n]) {
+            return n;
+        }
+        n += 1;
+    }
+    n
+}
+
+// Up to four letters as one number.
+pub(crate) fn word_of(letters: &[u8]) -> u32
+    requires { ⌜ length (now letters) ≤ 4 ⌝ }
+    ensures { λ r. ⌜ r ≡ word (map capital (now (letters .entry))) ⌝ }
+{
+    let mut n: u32 = 0;
+    let mut i = 0;
+    while i < letters.len() {
+        n = n * 256 + capital_of(letters[i]) as u32;
+        i += 1;
+    }
+    n
+}
+
+// Letters as ten numbers: the four from a place on in each.
+pub(crate) fn letters_of(letters: &[u8]) -> Letters
+    ensures { λ r. ⌜ r ≡ asLetters (map capital (now (letters .entry))) ⌝ }
+{
+    Letters {
+        first: word_of(text(letters, 0, 4)),
+        second: word_of(text(letters, 4, 4)),
+        third: word_of(text(letters, 8, 4)),
+        fourth: word_of(text(letters, 12, 4)),
+        fifth: word_of(text(letters, 16, 4)),
+        sixth: word_of(text(letters, 20, 4)),
+        seventh: word_of(text(letters, 24, 4)),
+        eighth: word_of(text(letters, 28, 4)),
+        ninth: word_of(text(letters, 32, 4)),
+        tenth: word_of(text(letters, 36, 4)),
+    }
+}
+
+// The four bytes of a number that holds letters: these are the last ones, with zeros in front.
+pub fn word_bytes(word: u32) -> [u8; 4]
+    ensures { λ r. ⌜ r ≡ wordBytes word ⌝ }
+{
+    [
+        (word / 0x100_0000 % 256) as u8,
+        (word / 0x1_0000 % 256) as u8,
+        (word / 0x100 % 256) as u8,
+        (word % 256) as u8,
+    ]
+}
+
+// How many letters a number holds.
+pub fn word_length(word: u32) -> usize
+    ensures { λ r. ⌜ r ≡ length (wordLetters word) ⌝ }
+{
+    if word < 0x100 {
+        if word == 0 {
+            return 0;
+        }
+        return 1;
+    }
+    if word < 0x1_0000 {
+        return 2;
+    }
+    if word < 0x100_0000 {
+        return 3;
+    }
+    4
+}
