@@ -2,7 +2,7 @@
 -- Assumes nothing.
 use Prim.Native.Nat.{ℕ, zero, suc, _-_, _≤_, _<_}
 use mathlib.Core.Path.{_≡_, refl, ap}
-use mathlib.Core.List.{List, _++_}
+use mathlib.Core.List.{List, _++_, map}
 use native.Mathlib.Nat.{zero-add, zero-sub}
 use native.Mathlib.Numerals.{unary-clauses}
 use native.Mathlib.Omega.{arith}
@@ -11,9 +11,12 @@ use lib.IntN.{ℤ, pos}
 use lib.ListN.{length, take, drop, getD, set, replicate, length-append}
 use lib.Seq.{paste-suc, take-append-seam}
 use Rattle.rules.specs.Sentences.{numbers02, numbers03}
+use Rattle.rules.specs.Messages.{messageNumbers}
 use Rattle.rules.specs.Answers.{values}
+use Rattle.rules.specs.declared.Message as MessageType
+use Rattle.rules.specs.declared.Message.the-variants.{Question, Number, Version, Clock, Tune, OtherLetters}
 use Rattle.rules.specs.declared.Frame.{Frame}
-use Rattle.rules.specs.declared.Frame.the-variants.{Ack, Status, Command, Apa02, Apa03, Apa05, Other}
+use Rattle.rules.specs.declared.Frame.the-variants.{Ack, Status, Command, Apa02, Apa03, Apa05, Other, Message}
 use Rattle.records.specs.Told.{valuePlaces, fieldsOf, FieldsTold}
 use Rattle.records.specs.declared.told.Fields.{Fields}
 
@@ -30,6 +33,14 @@ pub one-more : (d s : List ℤ) (j : ℕ) → j < length d → j < length s → 
 one-more d s j p q = simp zero-add at (paste-suc d 0 s j (pos 0) (rw zero-add p) q)
 
 -- No frame has more values than a status report has.
+few-numbers : (m : MessageType.Message) → length (map pos (messageNumbers m)) ≤ valuePlaces
+few-numbers (Question letters) = lit≤ tt
+few-numbers (Number letters n) = lit≤ tt
+few-numbers (Version a b) = lit≤ tt
+few-numbers (Clock c) = lit≤ tt
+few-numbers Tune = lit≤ tt
+few-numbers (OtherLetters w) = lit≤ tt
+
 pub few-values : (f : Frame) → length (values f) ≤ valuePlaces
 unfolding numbers02 numbers03
 few-values (Ack c) = lit≤ tt
@@ -39,6 +50,7 @@ few-values (Apa02 r) = lit≤ tt
 few-values (Apa03 r) = lit≤ tt
 few-values (Apa05 r) = lit≤ tt
 few-values (Other n) = lit≤ tt
+few-values (Message m) = few-numbers m
 
 -- What is told of a frame: its fields; of these the values come back, and they stand in the places.
 pub tells : (f : Frame) {r : Fields} → r ≡ fieldsOf f → FieldsTold f r

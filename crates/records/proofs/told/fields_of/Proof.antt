@@ -66,6 +66,12 @@ enum-known-frame-7 c = search needs
 without-values-requires-3 : tie.Need-without-values-requires-3
 without-values-requires-3 c κs = search needs
 
+enum-known-frame-8 : tie.Need-enum-known-frame-8
+enum-known-frame-8 c = search needs
+
+fields-of-message-requires : tie.Need-fields-of-message-requires
+fields-of-message-requires c κs = search needs
+
 returns : tie.Need-returns
 returns c = tells _ (rw (c .before .before .frame .given .1) (c .without-values .ensures))
 
@@ -86,6 +92,9 @@ returns-6 c = tells _ (c .with-numbers3 .ensures ∙ rw (c .before .before .of-0
 
 returns-7 : tie.Need-returns-7
 returns-7 c = tells _ (rw (c .before .before .frame7 .given .1) (c .without-values3 .ensures))
+
+returns-8 : tie.Need-returns-8
+returns-8 c = tells _ (rw (c .before .before .frame8 .given .1) (c .fields-of-message .ensures))
 
 pub fields-of-spec : {M : Type 1} → statement M
 fields-of-spec =
@@ -111,10 +120,13 @@ fields-of-spec =
     with-numbers-requires-3
     enum-known-frame-7
     without-values-requires-3
+    enum-known-frame-8
+    fields-of-message-requires
     returns
     returns-2
     returns-3
     returns-4
     returns-5
     returns-6
-    returns-7)
+    returns-7
+    returns-8)
