@@ -16,7 +16,7 @@ use Rattle.rules.specs.declared.Status as StatusType
 use Rattle.rules.specs.declared.Sentence05.{Sentence05}
 use Rattle.rules.specs.declared.Letters.{Letters}
 use Rattle.rules.specs.declared.Behind.{Behind}
-use Rattle.rules.specs.declared.Behind.the-variants.{ANumber, AVersion, AClock, Nothing, Anything}
+use Rattle.rules.specs.declared.Behind.the-variants.{ANumber, AVersion, AClock, Alone, Anything}
 use Rattle.rules.specs.declared.Message as MessageType
 use Rattle.rules.specs.declared.Message.the-variants.{Question, Number, Version, Clock, Tune, OtherLetters}
 use Rattle.rules.specs.declared.Frame.{Frame}
@@ -164,12 +164,26 @@ abbrev pub orQuestion : ℕ → List ℕ → Reading → Reading
 orQuestion letters [] response = Good (Message (Question letters))
 orQuestion letters (b ∷ bs) response = response
 
+abbrev pub messageIf : Bool → MessageType.Message → Reading
+messageIf keeps m = cond keeps (Good (Message m)) (Refused notGood)
+
+abbrev pub readNumber : ℕ → ℕ → ℕ → List ℕ → Reading
+readNumber letters width limit t = orQuestion letters t (messageIf (isNumber width limit t) (Number letters (decimal t)))
+
+abbrev pub readVersion : ℕ → List ℕ → Reading
+readVersion letters t = orQuestion letters t (messageIf (arePairs versionMarks t) (Version (pairAt t 0) (pairAt t 1)))
+
+abbrev pub readClock : ℕ → List ℕ → Reading
+readClock letters t = orQuestion letters t (messageIf (arePairs clockMarks t && clockInRange (clockOf t)) (Clock (clockOf t)))
+
+abbrev pub readTune : List ℕ → Reading
+readTune t = messageIf (same t []) Tune
+
 abbrev pub readBehind : ℕ → Letters → Behind → List ℕ → Reading
-readBehind n w (ANumber width limit) t = orQuestion n t (cond (isNumber width limit t) (Good (Message (Number n (decimal t)))) (Refused notGood))
-readBehind n w AVersion t = orQuestion n t (cond (arePairs versionMarks t) (Good (Message (Version (pairAt t 0) (pairAt t 1)))) (Refused notGood))
-readBehind n w AClock t =
-    orQuestion n t (cond (arePairs clockMarks t && clockInRange (clockOf t)) (Good (Message (Clock (clockOf t)))) (Refused notGood))
-readBehind n w Nothing t = cond (same t []) (Good (Message Tune)) (Refused notGood)
+readBehind n w (ANumber width limit) t = readNumber n width limit t
+readBehind n w AVersion t = readVersion n t
+readBehind n w AClock t = readClock n t
+readBehind n w Alone t = readTune t
 readBehind n w Anything t = Good (Message (OtherLetters w))
 
 unfoldable pub readBody : List ℕ → Reading

@@ -10,7 +10,7 @@ use Rattle.rules.specs.Numbers.{isDigit, decimal, withZeros}
 use Rattle.rules.specs.declared.Clock as ClockType
 use Rattle.rules.specs.declared.Letters.{Letters}
 use Rattle.rules.specs.declared.Behind.{Behind}
-use Rattle.rules.specs.declared.Behind.the-variants.{ANumber, AVersion, AClock, Nothing, Anything}
+use Rattle.rules.specs.declared.Behind.the-variants.{ANumber, AVersion, AClock, Alone, Anything}
 use Rattle.rules.specs.declared.Message.{Message}
 use Rattle.rules.specs.declared.Message.the-variants.{Question, Number, Version, Clock, Tune, OtherLetters}
 
@@ -122,7 +122,7 @@ behind n =
     (cond (eqb n (word (ascii "HS"))) (ANumber 1 1)
     (cond (eqb n (word (ascii "RV"))) AVersion
     (cond (eqb n (word (ascii "CC"))) AClock
-    (cond (eqb n (word (ascii "FT"))) Nothing
+    (cond (eqb n (word (ascii "FT"))) Alone
     Anything))))))
 
 -- A number has all its digits, and is at most its limit.
@@ -167,14 +167,14 @@ abbrev pub isAsked : Behind → Bool
 isAsked (ANumber width limit) = true
 isAsked AVersion = true
 isAsked AClock = true
-isAsked Nothing = false
+isAsked Alone = false
 isAsked Anything = false
 
 abbrev pub isUpTo : Behind → ℕ → Bool
 isUpTo (ANumber width limit) n = leb n limit
 isUpTo AVersion n = false
 isUpTo AClock n = false
-isUpTo Nothing n = false
+isUpTo Alone n = false
 isUpTo Anything n = false
 
 unfoldable pub messageInRange : Message → Bool
@@ -190,7 +190,7 @@ abbrev pub widthOf : Behind → ℕ
 widthOf (ANumber width limit) = width
 widthOf AVersion = 0
 widthOf AClock = 0
-widthOf Nothing = 0
+widthOf Alone = 0
 widthOf Anything = 0
 
 unfoldable pub pairsText : List ℕ → List ℕ → List ℕ

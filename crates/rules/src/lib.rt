@@ -231,7 +231,7 @@ pub enum Behind {
     ANumber(usize, u32),
     AVersion,
     AClock,
-    Nothing,
+    Alone,
     Anything,
 }
 
