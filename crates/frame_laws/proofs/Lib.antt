@@ -17,3 +17,4 @@ pub mod Form
 pub mod Exact
 pub mod Spe
 pub mod Alpha
+pub mod Letters
