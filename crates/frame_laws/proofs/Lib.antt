@@ -15,6 +15,7 @@ pub mod Comma
 pub mod Report
 pub mod Form
 pub mod Exact
+pub mod Reading
 pub mod Spe
 pub mod Alpha
 pub mod Letters
