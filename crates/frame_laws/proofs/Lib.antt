@@ -19,3 +19,5 @@ pub mod Reading
 pub mod Spe
 pub mod Alpha
 pub mod Letters
+pub mod Pairs
+pub mod Listed
