@@ -21,3 +21,5 @@ pub mod Alpha
 pub mod Letters
 pub mod Pairs
 pub mod Listed
+pub mod MessageParts
+pub mod Messages
