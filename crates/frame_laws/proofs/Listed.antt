@@ -10,7 +10,7 @@ use lib.Dec.{eqb, leb, ltb}
 use lib.ListN.{length}
 use borrow.Author.Tests.{eqb-true, leb-true, leb-false, ltb-true}
 use Rattle.rules.specs.Bytes.{ascii, oneOf, between, every}
-use Rattle.rules.specs.Messages.{isCapital, wordFrom, word, withoutZeros, wordLetters, powers, fiveDigits, behind}
+use Rattle.rules.specs.Messages.{isCapital, wordFrom, word, withoutZeros, wordLetters, powers, fiveDigits, behind, isAsked}
 use Rattle.rules.specs.declared.Behind.{Behind}
 use Rattle.rules.specs.declared.Behind.the-variants.{ANumber, AVersion, AClock, Alone, Anything}
 use Rattle.frame_laws.proofs.Bytes.{tests, both-right, answer, between-bounds, one-of-these}
@@ -24,6 +24,14 @@ isListed AVersion = true
 isListed AClock = true
 isListed Alone = true
 isListed Anything = false
+
+-- Letters that may be asked for are listed.
+pub asked-listed : (b : Behind) → isAsked b ≡ true → isListed b ≡ true
+asked-listed (ANumber width limit) e = refl
+asked-listed AVersion e = refl
+asked-listed AClock e = refl
+asked-listed Alone e = refl
+asked-listed Anything e = e
 
 -- The test: what may stand behind a number's letters is theirs alone, and a number there has 1 to 5 digits and fits them;
 abbrev fitsBehind : ℕ → Behind → Bool

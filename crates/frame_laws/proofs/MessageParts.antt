@@ -26,7 +26,7 @@ use Rattle.frame_laws.proofs.Numbers.{zeros-length, zeros-read}
 use Rattle.frame_laws.proofs.Exact.{AreLetters, IsBehind}
 use Rattle.frame_laws.proofs.Reading.{choice}
 use Rattle.frame_laws.proofs.Pairs.{number-good, number-again, isPair, pairsIn, pairs-good, pairs-read, pairs-length, pairs-front, pairs-below, pairs-again, pairs-bytes}
-use Rattle.frame_laws.proofs.Listed.{isListed, listed-length, number-fits}
+use Rattle.frame_laws.proofs.Listed.{isListed, asked-listed, listed-length, number-fits}
 
 -- A byte of a body, by its number; a digit is one, and no letter.
 pub body-byte : (b : ℕ) → 32 ≤ b → b ≤ 126 → b ≢ 94 → b ≢ 59 → isBodyByte b ≡ true
@@ -135,14 +135,7 @@ pub record Laid (m : MessageType.Message) (n : ℕ) (t : List ℕ) : Type 0 wher
   pub short : length (wordLetters n) + length t ≤ 19
   pub form : (body : List ℕ) → messageForm m body ≡ every isCapital (letterRun body)
 
--- A question may be asked, and a number be behind letters, where they are listed.
-asked-listed : (b : Behind) → isAsked b ≡ true → isListed b ≡ true
-asked-listed (ANumber width limit) e = refl
-asked-listed AVersion e = refl
-asked-listed AClock e = refl
-asked-listed Alone e = refl
-asked-listed Anything e = e
-
+-- Where a number may be behind letters, it is of their width and up to their limit.
 up-to : (b : Behind) (k : ℕ) → isUpTo b k ≡ true → (width : ℕ) × (limit : ℕ) × (b ≡ ANumber width limit) × (k ≤ limit)
 up-to (ANumber width limit) k e = (width, limit, refl, leb-true k limit e)
 up-to AVersion k e = absurd (false≢true e)

@@ -16,7 +16,7 @@ use borrow.Author.Tests.{eqb-true}
 use Rattle.rules.specs.Bytes.{ascii, oneOf, between, every, same, first}
 use Rattle.rules.specs.Numbers.{decimal}
 use Rattle.rules.specs.Messages.{isBodyByte, isCapital, isLetter, capital, letterRun, lettersIn, behindLetters, bodyOf, messageFrame, isBody, isMessage, wordFrom, word, withoutZeros, wordLetters, asLetters, behind, isNumber, arePairs, versionMarks, clockMarks, clockOf, clockInRange, isAsked, messageInRange, messageBytes}
-use Rattle.rules.specs.Answers.{readOne, readFamily4, readBody, readBehind, orQuestion, notGood, kindOf, familyOf, allowed, bytesOf, hasWriter}
+use Rattle.rules.specs.Answers.{readOne, readFamily4, readBody, readBehind, orQuestion, messageIf, notGood, kindOf, familyOf, allowed, bytesOf, hasWriter}
 use Rattle.rules.specs.Form.{messageForm, inForm}
 use Rattle.rules.specs.declared.Letters.{Letters}
 use Rattle.rules.specs.declared.Behind.{Behind}
@@ -31,8 +31,9 @@ use Rattle.frame_laws.proofs.Bytes.{tests, both, both-pass, bounds-betw
 use Rattle.frame_laws.proofs.Exact.{AreLetters, IsBehind, IsFrame}
 use Rattle.frame_laws.proofs.Reading.{ReadsAs, choice, exact-for, refused-for, message-family}
 use Rattle.frame_laws.proofs.Letters.{capital-letter, capitals-letters, capitals-same, run-ends, run-front, letters-run, letters-behind, in-capitals}
-use Rattle.frame_laws.proofs.Listed.{isListed, listed-capitals, listed-length, listed-word, listed-letters, number-fits, version-word, clock-word, alone-word}
-use Rattle.frame_laws.proofs.MessageParts.{body-byte, Plain, Laid, laid, asked-listed, behind-in-range, wordOf, behindText}
+use Rattle.frame_laws.proofs.Pairs.{pairs-length}
+use Rattle.frame_laws.proofs.Listed.{isListed, asked-listed, listed-capitals, listed-length, listed-word, listed-letters, number-fits, version-word, clock-word, alone-word}
+use Rattle.frame_laws.proofs.MessageParts.{body-byte, Plain, Laid, laid, behind-in-range, wordOf, behindText}
 
 -- The frame: a body that is framed is found again, and is a message; and a message is its framed body.
 body-back : (body : List ℕ) → bodyOf (messageFrame body) ≡ body
@@ -53,11 +54,117 @@ question-or : (P : Reading → Type 0) (n : ℕ) (t : List ℕ) (r : Reading) �
 question-or P n [] r asked told = asked refl
 question-or P n (b ∷ t) r asked told = told
 
--- What the answer of family 4 tells of the bytes.
+-- The letters in a message, their number, and what stands behind them.
+abbrev lettersOfIt : List ℕ → List ℕ
+lettersOfIt bs = lettersIn (bodyOf bs)
+
+abbrev wordIn : List ℕ → ℕ
+wordIn bs = word (lettersOfIt bs)
+
+abbrev behindIn : List ℕ → List ℕ
+behindIn bs = behindLetters (bodyOf bs)
+
+-- What the answer tells of a message, by what may stand behind its letters;
+module _ (bs : List ℕ) (good : isMessage bs ≡ true) where
+  own-letters : isListed (behind (wordIn bs)) ≡ true → lettersOfIt bs ≡ wordLetters (wordIn bs)
+  own-letters listed = listed-letters (lettersOfIt bs) (in-capitals (bodyOf bs)) listed
+
+  known-letters : (n : ℕ) → isListed (behind (wordIn bs)) ≡ true → wordIn bs ≡ n → lettersOfIt bs ≡ wordLetters n
+  known-letters n listed e = own-letters listed ∙ ap wordLetters e
+
+  question : isAsked (behind (wordIn bs)) ≡ true → behindIn bs ≡ [] → ReadsAs 4 bs (Good (Message (Question (wordIn bs))))
+  question asked none = (refl, (good, own-letters (asked-listed (behind (wordIn bs)) asked), (asked, none)))
+
+  tells-behind : (b : Behind) → behind (wordIn bs) ≡ b → ReadsAs 4 bs (readBehind (wordIn bs) (asLetters (lettersOfIt bs)) b (behindIn bs))
+  unfolding wordFrom wordLetters withoutZeros
+  tells-behind (ANumber width limit) e =
+      question-or (ReadsAs 4 bs) (wordIn bs) (behindIn bs) _ (question (rw e))
+      (choice (ReadsAs 4 bs) (isNumber width limit (behindIn bs)) _ _
+      (λ fits. (refl, (good, own-letters (rw e), (width, limit, e, fits, refl)))) (λ bad. refl))
+  tells-behind AVersion e =
+      question-or (ReadsAs 4 bs) (wordIn bs) (behindIn bs) _ (question (rw e))
+      (choice (ReadsAs 4 bs) (arePairs versionMarks (behindIn bs)) _ _
+      (λ fits. (refl, (good, known-letters (word (ascii "RV")) (rw e) (version-word (wordIn bs) e), (fits, refl, refl)))) (λ bad. refl))
+  tells-behind AClock e =
+      question-or (ReadsAs 4 bs) (wordIn bs) (behindIn bs) _ (question (rw e))
+      (choice (ReadsAs 4 bs) (arePairs clockMarks (behindIn bs) && clockInRange (clockOf (behindIn bs))) _ _
+      (λ fits. (refl, (good, known-letters (word (ascii "CC")) (rw e) (clock-word (wordIn bs) e), (search tests, search tests, refl)))) (λ bad. refl))
+  tells-behind Alone e =
+      choice (ReadsAs 4 bs) (same (behindIn bs) []) _ _
+      (λ none. (refl, (good, known-letters (word (ascii "FT")) (rw e) (alone-word (wordIn bs) e), same-eq (behindIn bs) [] none))) (λ bad. refl)
+  tells-behind Anything e = (refl, (good, (e, refl), tt))
+
+-- and of any bytes.
 tells : (bs : List ℕ) → ReadsAs 4 bs (readOne 4 bs)
 unfolding readOne readFamily4 readBody
-tells bs = choice (ReadsAs 4 bs) (isMessage bs) _ _ (λ good. of-body bs good) (λ none. refl)
-  where
-    of-body : (bs : List ℕ) → isMessage bs ≡ true → ReadsAs 4 bs (readBody (bodyOf bs))
-    of-body bs good = ?
+tells bs = choice (ReadsAs 4 bs) (isMessage bs) _ _ (λ good. tells-behind bs good (behind (wordIn bs)) refl) (λ none. refl)
 
+-- A message is read as what its letters and what stands behind them say;
+reads : (bs : List ℕ) (n : ℕ) (b : Behind) → isMessage bs ≡ true → wordIn bs ≡ n → behind n ≡ b
+    → readOne 4 bs ≡ readBehind n (asLetters (lettersOfIt bs)) b (behindIn bs)
+unfolding readOne readFamily4 readBody
+reads bs n b good p q =
+    (λ i. cond (good i) (readBehind (p i) (asLetters (lettersOfIt bs)) (behind (p i)) (behindIn bs)) (Refused notGood))
+    ∙ (λ i. readBehind n (asLetters (lettersOfIt bs)) (q i) (behindIn bs))
+
+-- a question where one may be asked, and a response where something stands.
+reads-question : (n : ℕ) (w : Letters) (b : Behind) (t : List ℕ) → isAsked b ≡ true → t ≡ [] → readBehind n w b t ≡ Good (Message (Question n))
+reads-question n w (ANumber width limit) t e none = rw none
+reads-question n w AVersion t e none = rw none
+reads-question n w AClock t e none = rw none
+reads-question n w Alone t e none = absurd (false≢true e)
+reads-question n w Anything t e none = absurd (false≢true e)
+
+reads-response : (n : ℕ) (t : List ℕ) (r : Reading) → 0 < length t → orQuestion n t r ≡ r
+reads-response n [] r some = absurd (omega arith)
+reads-response n (b ∷ t) r some = refl
+
+-- Each message is read.
+message-read : (bs : List ℕ) (m : MessageType.Message) → IsFrame bs (Message m) → readOne 4 bs ≡ Good (Message m)
+unfolding isNumber behind oneOf wordFrom
+message-read bs (Question n) h =
+    reads bs n (behind n) (h .0) (ap word (h .1) ∙ listed-word n (asked-listed (behind n) (h .2 .0))) refl
+    ∙ reads-question n (asLetters (lettersOfIt bs)) (behind n) (behindIn bs) (h .2 .0) (h .2 .1)
+message-read bs (Number n k) h =
+    let e = h .2 .2 in
+    let fits = h .2 .3 in
+    let some : 0 < length (behindIn bs) = omega (arith, number-fits n (h .2 .0) (h .2 .1) e, eqb-true (length (behindIn bs)) (h .2 .0) (search tests)) in
+    reads bs n (ANumber (h .2 .0) (h .2 .1)) (h .0) (ap word (h .1) ∙ listed-word n (rw e)) e
+    ∙ reads-response n (behindIn bs) _ some
+    ∙ (λ i. messageIf (fits i) (Number n (sym (h .2 .4) i)))
+message-read bs (Version a b) h =
+    reads bs (word (ascii "RV")) AVersion (h .0) (ap word (h .1)) refl
+    ∙ reads-response (word (ascii "RV")) (behindIn bs) _ (omega (arith, pairs-length versionMarks (behindIn bs) (h .2 .0)))
+    ∙ (λ i. messageIf (h .2 .0 i) (Version (sym (h .2 .1) i) (sym (h .2 .2) i)))
+message-read bs (Clock c) h =
+    let own = sym (h .2 .2) in
+    reads bs (word (ascii "CC")) AClock (h .0) (ap word (h .1)) refl
+    ∙ reads-response (word (ascii "CC")) (behindIn bs) _ (omega (arith, pairs-length clockMarks (behindIn bs) (h .2 .0)))
+    ∙ (λ i. messageIf (h .2 .0 i && clockInRange (own i)) (Clock (own i)))
+    ∙ (λ i. messageIf (h .2 .1 i) (Clock c))
+message-read bs Tune h =
+    reads bs (word (ascii "FT")) Alone (h .0) (ap word (h .1)) refl ∙ ap (λ (x : Bool). messageIf x Tune) (eq-same (behindIn bs) [] (h .2))
+message-read bs (OtherLetters w) h =
+    reads bs (wordIn bs) Anything (h .0) refl (h .1 .0) ∙ ap (λ (x : Letters). Good (Message (OtherLetters x))) (sym (h .1 .1))
+
+-- What holds of messages holds of frames of family 4.
+for-messages : (P : Frame → Type 0) → ((m : MessageType.Message) → P (Message m)) → (f : Frame) → familyOf (kindOf f) ≡ 4 → P f
+for-messages P each (Ack c) own = absurd (omega arith)
+for-messages P each (Status s) own = absurd (omega arith)
+for-messages P each (Command c) own = absurd (omega arith)
+for-messages P each (Apa02 r) own = absurd (omega arith)
+for-messages P each (Apa03 r) own = absurd (omega arith)
+for-messages P each (Apa05 r) own = absurd (omega arith)
+for-messages P each (Other n) own = absurd (omega arith)
+for-messages P each (Message m) own = each m
+
+is-read : (bs : List ℕ) (f : Frame) → familyOf (kindOf f) ≡ 4 → IsFrame bs f → readOne 4 bs ≡ Good f
+is-read bs = for-messages (λ (k : Frame). IsFrame bs k → readOne 4 bs ≡ Good k) (message-read bs)
+
+-- Bytes are read as a frame exactly where it is one of this family and they are it;
+pub family4-exact : (bs : List ℕ) (f : Frame) → (readOne 4 bs ≡ Good f) ↔ ((familyOf (kindOf f) ≡ 4) × IsFrame bs f)
+family4-exact bs = exact-for 4 bs (tells bs) (is-read bs)
+
+-- where they are no message, and only there, they are refused, with number 8.
+pub family4-refused : (bs : List ℕ) (n : ℕ) → (readOne 4 bs ≡ Refused n) ↔ (((f : Frame) → familyOf (kindOf f) ≡ 4 → IsFrame bs f → ⊥) × (n ≡ notGood))
+family4-refused bs = refused-for 4 bs (tells bs) (is-read bs)
