@@ -4,7 +4,7 @@
 -- is laid out, and the argument from that is made once. Assumes nothing.
 use Prim.Native.Nat.{ℕ, _+_, _-_, _≤_, _<_}
 use Prim.Native.Char.{code}
-use mathlib.Core.Path.{_≡_, refl, sym, ap, ap₂, subst, _∙_}
+use mathlib.Core.Path.{_≡_, refl, sym, ap, ap₂, subst, subst⁻¹, _∙_}
 use mathlib.Core.Bool.{Bool, true, false, _&&_, cond, false≢true}
 use mathlib.Core.List.{List, [], _∷_, _++_, map}
 use mathlib.Core.Logic.{_↔_}
@@ -168,3 +168,98 @@ family4-exact bs = exact-for 4 bs (tells bs) (is-read bs)
 -- where they are no message, and only there, they are refused, with number 8.
 pub family4-refused : (bs : List ℕ) (n : ℕ) → (readOne 4 bs ≡ Refused n) ↔ (((f : Frame) → familyOf (kindOf f) ≡ 4 → IsFrame bs f → ⊥) × (n ≡ notGood))
 family4-refused bs = refused-for 4 bs (tells bs) (is-read bs)
+
+-- The body that is laid out for a message in range is one,
+abbrev laidBody : MessageType.Message → List ℕ
+laidBody m = wordLetters (wordOf m) ++ behindText m
+
+capital-byte : (b : ℕ) → isCapital b ≡ true → isBodyByte b ≡ true
+capital-byte b e = let h = between-bounds 65 90 b e in body-byte b (omega arith) (omega arith) (omega arith) (omega arith)
+
+letters-first : (ls t : List ℕ) → every isLetter ls ≡ true → 0 < length ls → isLetter (first (ls ++ t)) ≡ true
+letters-first [] t e some = absurd (omega arith)
+letters-first (b ∷ ls) t e some = every-split isLetter b ls e .0
+
+module _ (m : MessageType.Message) (fits : messageInRange m ≡ true) where
+  laid-out : Laid m (wordOf m) (behindText m)
+  laid-out = laid m fits
+
+  capitals : every isCapital (wordLetters (wordOf m)) ≡ true
+  capitals = listed-capitals (wordOf m) (laid-out .listed)
+
+  letters : every isLetter (wordLetters (wordOf m)) ≡ true
+  letters = capitals-letters (wordLetters (wordOf m)) capitals
+
+  laid-length : (2 ≤ length (laidBody m)) × (length (laidBody m) ≤ 19)
+  laid-length =
+      omega (arith, length-append (wordLetters (wordOf m)) (behindText m), listed-length (wordOf m) (laid-out .listed), laid-out .short)
+
+  laid-is-body : isBody (laidBody m) ≡ true
+  unfolding isBody
+  laid-is-body =
+      let long = bounds-between 1 38 (length (laidBody m)) (omega (arith, laid-length)) (omega (arith, laid-length)) in
+      let bytes = every-weaker isCapital isBodyByte capital-byte (wordLetters (wordOf m)) capitals in
+      let clean = every-append isBodyByte (wordLetters (wordOf m)) (behindText m) bytes (laid-out .plain .clean) in
+      let some : 0 < length (wordLetters (wordOf m)) = omega (arith, listed-length (wordOf m) (laid-out .listed)) in
+      both-pass _ _ (both-pass _ _ long clean) (letters-first (wordLetters (wordOf m)) (behindText m) letters some)
+
+  -- in which its letters and what stands behind them are found again, so that framed it is this message.
+  laid-is-message : IsFrame (messageFrame (laidBody m)) (Message m)
+  laid-is-message =
+      let ends = laid-out .plain .ends in
+      let run = letters-run (wordLetters (wordOf m)) (behindText m) letters ends in
+      let found = ap lettersIn (body-back (laidBody m)) ∙ ap (map capital) run ∙ capitals-same (wordLetters (wordOf m)) capitals in
+      let rest = ap behindLetters (body-back (laidBody m)) ∙ letters-behind (wordLetters (wordOf m)) (behindText m) letters ends in (
+        frame-message (laidBody m) laid-is-body,
+        laid-out .letters (lettersOfIt (messageFrame (laidBody m))) .1 found,
+        subst⁻¹ (IsBehind m) rest (laid-out .stands),
+      )
+
+  -- It has 4 to 21 bytes.
+  pub message-length : (4 ≤ length (messageBytes m)) × (length (messageBytes m) ≤ 21)
+  message-length = omega (arith, ap length (laid-out .bytes), length-append (laidBody m) (code ";" ∷ []), laid-length)
+
+-- A message in range, once written, reads back the same. (Letters that are not listed have no writer, and are never allowed.)
+message-back : (m : MessageType.Message) → allowed (Message m) ≡ true → readOne 4 (bytesOf (Message m)) ≡ Good (Message m)
+unfolding allowed bytesOf
+message-back m fits =
+    subst⁻¹ (λ (bs : List ℕ). readOne 4 bs ≡ Good (Message m)) (laid-out m fits .bytes)
+    (message-read (messageFrame (laidBody m)) m (laid-is-message m fits))
+
+pub family4-back : (f : Frame) → familyOf (kindOf f) ≡ 4 → allowed f ≡ true → readOne 4 (bytesOf f) ≡ Good f
+family4-back = for-messages (λ (f : Frame). allowed f ≡ true → readOne 4 (bytesOf f) ≡ Good f) message-back
+
+-- What was read and has a writer may be written,
+message-allowed : (bs : List ℕ) (m : MessageType.Message) → IsFrame bs (Message m) → hasWriter (Message m) ≡ true → allowed (Message m) ≡ true
+unfolding allowed
+message-allowed bs m h writer = behind-in-range m (behindIn bs) writer (h .2)
+
+pub family4-allowed : (bs : List ℕ) (f : Frame) → readOne 4 bs ≡ Good f → hasWriter f ≡ true → allowed f ≡ true
+family4-allowed bs f e =
+    let h = family4-exact bs f .0 e in
+    for-messages (λ (k : Frame). IsFrame bs k → hasWriter k ≡ true → allowed k ≡ true) (message-allowed bs) f (h .0) (h .1)
+
+-- as its letters in capitals and what stood behind them;
+message-again : (bs : List ℕ) (m : MessageType.Message) → IsFrame bs (Message m) → hasWriter (Message m) ≡ true
+    → (bytesOf (Message m) ≡ bs) ↔ (inForm (Message m) bs ≡ true)
+unfolding bytesOf inForm
+message-again bs m h writer =
+    let body = bodyOf bs in
+    let run = letterRun body in
+    let ls = lettersOfIt bs in
+    let t = behindIn bs in
+    let laid-m = laid m (behind-in-range m t writer (h .2)) in
+    let written : messageBytes m ≡ messageFrame (ls ++ t) =
+        laid-m .bytes ∙ (λ i. messageFrame (sym (laid-m .letters ls .0 (h .1)) i ++ sym (laid-m .only t (h .2)) i)) in
+    let own = message-frame bs (h .0) in
+    let form = laid-m .form body in
+    let found = letters-run ls t (capitals-letters ls (in-capitals body)) (run-ends body) in (
+      λ e. form ∙ subst (λ (l : List ℕ). every isCapital l ≡ true) (sym found ∙ ap letterRun (sym (body-back (ls ++ t)) ∙ ap bodyOf (sym written ∙ e))) (in-capitals body),
+      λ e. written ∙ ap messageFrame (ap (λ (l : List ℕ). l ++ t) (capitals-same run (sym form ∙ e)) ∙ run-front body) ∙ sym own,
+    )
+
+-- so it gives its own bytes if, and only if, its letters were capitals.
+pub family4-again : (bs : List ℕ) (f : Frame) → readOne 4 bs ≡ Good f → hasWriter f ≡ true → (bytesOf f ≡ bs) ↔ (inForm f bs ≡ true)
+family4-again bs f e =
+    let h = family4-exact bs f .0 e in
+    for-messages (λ (k : Frame). IsFrame bs k → hasWriter k ≡ true → (bytesOf k ≡ bs) ↔ (inForm k bs ≡ true)) (message-again bs) f (h .0) (h .1)
