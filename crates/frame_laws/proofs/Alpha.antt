@@ -4,7 +4,7 @@
 -- of record; the argument from them is made once, over the kind and its number. Assumes nothing.
 use Prim.Native.Nat.{ℕ, _<_}
 use mathlib.Core.Path.{_≡_, refl, sym, _∙_, ap, ap₂, subst}
-use mathlib.Core.Bool.{Bool, true, false, cond, false≢true}
+use mathlib.Core.Bool.{Bool, true, cond, false≢true}
 use mathlib.Core.List.{List}
 use mathlib.Core.Logic.{_↔_, _≢_}
 use native.Mathlib.Omega.{arith}
@@ -84,7 +84,8 @@ pub family2-exact : (bs : List ℕ) (f : Frame) → (readOne 2 bs ≡ Good f) �
 family2-exact bs = exact-for 2 bs (tells bs) (is-read bs)
 
 -- where they are no such sentence, and only there, they are refused, with number 8.
-pub family2-refused : (bs : List ℕ) (n : ℕ) → (readOne 2 bs ≡ Refused n) ↔ (((f : Frame) → familyOf (kindOf f) ≡ 2 → IsFrame bs f → ⊥) × (n ≡ notGood))
+pub family2-refused : (bs : List ℕ) (n : ℕ)
+    → (readOne 2 bs ≡ Refused n) ↔ (((f : Frame) → familyOf (kindOf f) ≡ 2 → IsFrame bs f → ⊥) × (n ≡ notGood))
 family2-refused bs = refused-for 2 bs (tells bs) (is-read bs)
 
 -- The argument for a kind of record and its number. What is written of a record in range is a sentence of that number

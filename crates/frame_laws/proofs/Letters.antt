@@ -13,7 +13,7 @@ use lib.Dec.{lit<}
 use lib.ListN.{length, take, drop, length-append, length-take}
 use lib.Seq.{take-all, take-add, drop-drop, drop-append-seam}
 use borrow.Author.Tests.{leb-true, le-leb, lt-leb, ne-eqb}
-use Rattle.rules.specs.Bytes.{every, first, part}
+use Rattle.rules.specs.Bytes.{every, first}
 use Rattle.rules.specs.Messages.{isSmall, isCapital, isLetter, capital, letterRun, lettersIn, behindLetters, wordFrom, word, withoutZeros, wordLetters, lettersOf, wordAt, asLetters}
 use Rattle.frame_laws.proofs.Bytes.{answer, either, between-bounds, bounds-between, every-cons, every-split, every-weaker, every-take, every-drop}
 use Rattle.frame_laws.proofs.SentenceFields.{isByte}

@@ -1,17 +1,17 @@
 -- The two parts of a written message: the letters of its number, and what is put behind them. Each kind of message that has
 -- a writer is laid out so, and nothing else could stand there; the theorems of family 4 go from that, once for all kinds.
 -- By the laws of numbers and of pairs. Assumes nothing.
-use Prim.Native.Nat.{ℕ, _+_, _-_, _*_, _%_, _≤_}
-use mathlib.Core.Path.{_≡_, refl, sym, ap, ap₂, subst, _∙_}
+use Prim.Native.Nat.{ℕ, _+_, _%_, _≤_}
+use mathlib.Core.Path.{_≡_, refl, sym, ap, _∙_}
 use mathlib.Core.Bool.{Bool, true, false, _&&_, and-true, false≢true}
 use mathlib.Core.List.{List, [], _∷_, _++_, append-nil}
 use mathlib.Core.Logic.{_↔_, _≢_, Iff·rfl}
 use native.Mathlib.Omega.{arith}
 use lib.Dec.{eqb, leb}
 use lib.ListN.{length, take, getD}
-use borrow.Author.Tests.{eqb-true, leb-true, le-leb, lt-leb, ne-eqb}
+use borrow.Author.Tests.{leb-true, le-leb, lt-leb, ne-eqb}
 use Rattle.rules.specs.Bytes.{ascii, oneOf, every, first}
-use Rattle.rules.specs.Numbers.{isDigit, decimal, withZeros}
+use Rattle.rules.specs.Numbers.{isDigit, withZeros}
 use Rattle.rules.specs.Messages.{isBodyByte, isCapital, isLetter, letterRun, messageFrame, wordFrom, word, withoutZeros, wordLetters, behind, isNumber, arePairs, versionMarks, clockMarks, clockOf, daysIn, clockInRange, isAsked, isUpTo, messageInRange, widthOf, pairsText, clockNumbers, messageBytes}
 use Rattle.rules.specs.Answers.{bytesOf, hasWriter}
 use Rattle.rules.specs.Form.{messageForm}
@@ -21,7 +21,7 @@ use Rattle.rules.specs.declared.Behind.the-variants.{ANumber, AVersion, AClock,
 use Rattle.rules.specs.declared.Message as MessageType
 use Rattle.rules.specs.declared.Message.the-variants.{Question, Number, Version, Clock, Tune, OtherLetters}
 use Rattle.rules.specs.declared.Frame.the-variants.{Message}
-use Rattle.frame_laws.proofs.Bytes.{tests, between-bounds, every-cons, every-split, every-take, every-weaker}
+use Rattle.frame_laws.proofs.Bytes.{tests, between-bounds, every-split, every-take, every-weaker}
 use Rattle.frame_laws.proofs.Numbers.{zeros-length, zeros-read}
 use Rattle.frame_laws.proofs.Exact.{AreLetters, IsBehind}
 use Rattle.frame_laws.proofs.Reading.{choice}
@@ -202,7 +202,7 @@ laid-clock c fits =
       bytes = refl;
       letters = λ ls. Iff·rfl;
       stands = (good, fits, sym (clock-told (behindText (Clock c)) c read));
-      only = λ u h. sym (pairs-again clockMarks u (h .0)) ∙ ap (pairsText clockMarks) (numbers-told u) ∙ (λ i. pairsText clockMarks (clockNumbers (sym (h .2) i)));
+      only = λ u h. sym (pairs-again clockMarks u (h .0)) ∙ ap (pairsText clockMarks) (numbers-told u ∙ ap clockNumbers (sym (h .2)));
       plain = pairs-plain clockMarks (behindText (Clock c)) refl good;
       short = omega (arith, pairs-length clockMarks (behindText (Clock c)) good);
       form = λ body. refl;
@@ -237,7 +237,8 @@ pub behind-in-range : (m : MessageType.Message) (t : List ℕ) → hasWriter (Me
 unfolding messageInRange bytesOf messageBytes isNumber
 behind-in-range (Question n) t writer h = h .0
 behind-in-range (Number n k) t writer h = let good = h .3 in rw (h .2, h .4) (search tests)
-behind-in-range (Version a b) t writer h = sym (two-pairs a b) ∙ (λ i. every isPair (h .1 i ∷ h .2 i ∷ [])) ∙ pairs-below versionMarks t (h .0)
+behind-in-range (Version a b) t writer h =
+    sym (two-pairs a b) ∙ (λ i. every isPair (h .1 i ∷ h .2 i ∷ [])) ∙ pairs-below versionMarks t (h .0)
 behind-in-range (Clock c) t writer h = h .1
 behind-in-range Tune t writer h = refl
 behind-in-range (OtherLetters w) t writer h = absurd (false≢true writer)

@@ -2,22 +2,20 @@
 -- written, and what was read gives its own bytes if, and only if, its letters were capitals.
 -- A message is its letters and what stands behind them in a frame that holds nothing else; `MessageParts` says how each kind
 -- is laid out, and the argument from that is made once. Assumes nothing.
-use Prim.Native.Nat.{ℕ, _+_, _-_, _≤_, _<_}
+use Prim.Native.Nat.{ℕ, _-_, _≤_, _<_}
 use Prim.Native.Char.{code}
-use mathlib.Core.Path.{_≡_, refl, sym, ap, ap₂, subst, subst⁻¹, _∙_}
-use mathlib.Core.Bool.{Bool, true, false, _&&_, cond, false≢true}
+use mathlib.Core.Path.{_≡_, refl, sym, ap, subst, subst⁻¹, _∙_}
+use mathlib.Core.Bool.{Bool, true, _&&_, cond, false≢true}
 use mathlib.Core.List.{List, [], _∷_, _++_, map}
 use mathlib.Core.Logic.{_↔_}
 use native.Mathlib.Omega.{arith}
-use lib.Dec.{eqb, leb}
-use lib.ListN.{length, take, drop, length-append}
+use lib.ListN.{length, length-append}
 use lib.Seq.{take-at}
 use borrow.Author.Tests.{eqb-true}
-use Rattle.rules.specs.Bytes.{ascii, oneOf, between, every, same, first}
-use Rattle.rules.specs.Numbers.{decimal}
+use Rattle.rules.specs.Bytes.{ascii, oneOf, every, same, first}
 use Rattle.rules.specs.Messages.{isBodyByte, isCapital, isLetter, capital, letterRun, lettersIn, behindLetters, bodyOf, messageFrame, isBody, isMessage, wordFrom, word, withoutZeros, wordLetters, asLetters, behind, isNumber, arePairs, versionMarks, clockMarks, clockOf, clockInRange, isAsked, messageInRange, messageBytes}
 use Rattle.rules.specs.Answers.{readOne, readFamily4, readBody, readBehind, orQuestion, messageIf, notGood, kindOf, familyOf, allowed, bytesOf, hasWriter}
-use Rattle.rules.specs.Form.{messageForm, inForm}
+use Rattle.rules.specs.Form.{inForm}
 use Rattle.rules.specs.declared.Letters.{Letters}
 use Rattle.rules.specs.declared.Behind.{Behind}
 use Rattle.rules.specs.declared.Behind.the-variants.{ANumber, AVersion, AClock, Alone, Anything}
@@ -27,13 +25,13 @@ use Rattle.rules.specs.declared.Frame.{Frame}
 use Rattle.rules.specs.declared.Frame.the-variants.{Ack, Status, Command, Apa02, Apa03, Apa05, Other, Message}
 use Rattle.rules.specs.declared.Reading.{Reading}
 use Rattle.rules.specs.declared.Reading.the-variants.{Good, Refused}
-use Rattle.frame_laws.proofs.Bytes.{tests, both, both-pass, bounds-between, between-bounds, same-eq, eq-same, every-append, every-split, every-weaker}
-use Rattle.frame_laws.proofs.Exact.{AreLetters, IsBehind, IsFrame}
-use Rattle.frame_laws.proofs.Reading.{ReadsAs, choice, exact-for, refused-for, message-family}
-use Rattle.frame_laws.proofs.Letters.{capital-letter, capitals-letters, capitals-same, run-ends, run-front, letters-run, letters-behind, in-capitals}
+use Rattle.frame_laws.proofs.Bytes.{tests, both-pass, bounds-between, between-bounds, same-eq, eq-same, every-append, every-split, every-weaker}
+use Rattle.frame_laws.proofs.Exact.{IsBehind, IsFrame}
+use Rattle.frame_laws.proofs.Reading.{ReadsAs, choice, exact-for, refused-for}
+use Rattle.frame_laws.proofs.Letters.{capitals-letters, capitals-same, run-ends, run-front, letters-run, letters-behind, in-capitals}
 use Rattle.frame_laws.proofs.Pairs.{pairs-length}
 use Rattle.frame_laws.proofs.Listed.{isListed, asked-listed, listed-capitals, listed-length, listed-word, listed-letters, number-fits, version-word, clock-word, alone-word}
-use Rattle.frame_laws.proofs.MessageParts.{body-byte, Plain, Laid, laid, behind-in-range, wordOf, behindText}
+use Rattle.frame_laws.proofs.MessageParts.{body-byte, Laid, laid, behind-in-range, wordOf, behindText}
 
 -- The frame: a body that is framed is found again, and is a message; and a message is its framed body.
 body-back : (body : List ℕ) → bodyOf (messageFrame body) ≡ body
@@ -50,48 +48,47 @@ unfolding isMessage
 message-frame bs good = same-eq bs (messageFrame (bodyOf bs)) (search tests)
 
 -- What stands before nothing is a question, and before something what is read of that.
-question-or : (P : Reading → Type 0) (n : ℕ) (t : List ℕ) (r : Reading) → (t ≡ [] → P (Good (Message (Question n)))) → P r → P (orQuestion n t r)
+question-or : (P : Reading → Type 0) (n : ℕ) (t : List ℕ) (r : Reading)
+    → (t ≡ [] → P (Good (Message (Question n)))) → P r → P (orQuestion n t r)
 question-or P n [] r asked told = asked refl
 question-or P n (b ∷ t) r asked told = told
 
 -- The letters in a message, their number, and what stands behind them.
-abbrev lettersOfIt : List ℕ → List ℕ
-lettersOfIt bs = lettersIn (bodyOf bs)
+abbrev capitalsIn : List ℕ → List ℕ
+capitalsIn bs = lettersIn (bodyOf bs)
 
 abbrev wordIn : List ℕ → ℕ
-wordIn bs = word (lettersOfIt bs)
+wordIn bs = word (capitalsIn bs)
 
 abbrev behindIn : List ℕ → List ℕ
 behindIn bs = behindLetters (bodyOf bs)
 
 -- What the answer tells of a message, by what may stand behind its letters;
 module _ (bs : List ℕ) (good : isMessage bs ≡ true) where
-  own-letters : isListed (behind (wordIn bs)) ≡ true → lettersOfIt bs ≡ wordLetters (wordIn bs)
-  own-letters listed = listed-letters (lettersOfIt bs) (in-capitals (bodyOf bs)) listed
-
-  known-letters : (n : ℕ) → isListed (behind (wordIn bs)) ≡ true → wordIn bs ≡ n → lettersOfIt bs ≡ wordLetters n
-  known-letters n listed e = own-letters listed ∙ ap wordLetters e
+  own-letters : isListed (behind (wordIn bs)) ≡ true → capitalsIn bs ≡ wordLetters (wordIn bs)
+  own-letters listed = listed-letters (capitalsIn bs) (in-capitals (bodyOf bs)) listed
 
   question : isAsked (behind (wordIn bs)) ≡ true → behindIn bs ≡ [] → ReadsAs 4 bs (Good (Message (Question (wordIn bs))))
   question asked none = (refl, (good, own-letters (asked-listed (behind (wordIn bs)) asked), (asked, none)))
 
-  tells-behind : (b : Behind) → behind (wordIn bs) ≡ b → ReadsAs 4 bs (readBehind (wordIn bs) (asLetters (lettersOfIt bs)) b (behindIn bs))
+  tells-behind : (b : Behind) → behind (wordIn bs) ≡ b → ReadsAs 4 bs (readBehind (wordIn bs) (asLetters (capitalsIn bs)) b (behindIn bs))
   unfolding wordFrom wordLetters withoutZeros
   tells-behind (ANumber width limit) e =
       question-or (ReadsAs 4 bs) (wordIn bs) (behindIn bs) _ (question (rw e))
       (choice (ReadsAs 4 bs) (isNumber width limit (behindIn bs)) _ _
       (λ fits. (refl, (good, own-letters (rw e), (width, limit, e, fits, refl)))) (λ bad. refl))
   tells-behind AVersion e =
+      let letters = own-letters (rw e) ∙ ap wordLetters (version-word (wordIn bs) e) in
       question-or (ReadsAs 4 bs) (wordIn bs) (behindIn bs) _ (question (rw e))
-      (choice (ReadsAs 4 bs) (arePairs versionMarks (behindIn bs)) _ _
-      (λ fits. (refl, (good, known-letters (word (ascii "RV")) (rw e) (version-word (wordIn bs) e), (fits, refl, refl)))) (λ bad. refl))
+      (choice (ReadsAs 4 bs) (arePairs versionMarks (behindIn bs)) _ _ (λ fits. (refl, (good, letters, (fits, refl, refl)))) (λ bad. refl))
   tells-behind AClock e =
+      let letters = own-letters (rw e) ∙ ap wordLetters (clock-word (wordIn bs) e) in
       question-or (ReadsAs 4 bs) (wordIn bs) (behindIn bs) _ (question (rw e))
       (choice (ReadsAs 4 bs) (arePairs clockMarks (behindIn bs) && clockInRange (clockOf (behindIn bs))) _ _
-      (λ fits. (refl, (good, known-letters (word (ascii "CC")) (rw e) (clock-word (wordIn bs) e), (search tests, search tests, refl)))) (λ bad. refl))
+      (λ fits. (refl, (good, letters, (search tests, search tests, refl)))) (λ bad. refl))
   tells-behind Alone e =
-      choice (ReadsAs 4 bs) (same (behindIn bs) []) _ _
-      (λ none. (refl, (good, known-letters (word (ascii "FT")) (rw e) (alone-word (wordIn bs) e), same-eq (behindIn bs) [] none))) (λ bad. refl)
+      let letters = own-letters (rw e) ∙ ap wordLetters (alone-word (wordIn bs) e) in
+      choice (ReadsAs 4 bs) (same (behindIn bs) []) _ _ (λ none. (refl, (good, letters, same-eq (behindIn bs) [] none))) (λ bad. refl)
   tells-behind Anything e = (refl, (good, (e, refl), tt))
 
 -- and of any bytes.
@@ -101,14 +98,15 @@ tells bs = choice (ReadsAs 4 bs) (isMessage bs) _ _ (λ good. tells-behind bs go
 
 -- A message is read as what its letters and what stands behind them say;
 reads : (bs : List ℕ) (n : ℕ) (b : Behind) → isMessage bs ≡ true → wordIn bs ≡ n → behind n ≡ b
-    → readOne 4 bs ≡ readBehind n (asLetters (lettersOfIt bs)) b (behindIn bs)
+    → readOne 4 bs ≡ readBehind n (asLetters (capitalsIn bs)) b (behindIn bs)
 unfolding readOne readFamily4 readBody
 reads bs n b good p q =
-    (λ i. cond (good i) (readBehind (p i) (asLetters (lettersOfIt bs)) (behind (p i)) (behindIn bs)) (Refused notGood))
-    ∙ (λ i. readBehind n (asLetters (lettersOfIt bs)) (q i) (behindIn bs))
+    (λ i. cond (good i) (readBehind (p i) (asLetters (capitalsIn bs)) (behind (p i)) (behindIn bs)) (Refused notGood))
+    ∙ (λ i. readBehind n (asLetters (capitalsIn bs)) (q i) (behindIn bs))
 
 -- a question where one may be asked, and a response where something stands.
-reads-question : (n : ℕ) (w : Letters) (b : Behind) (t : List ℕ) → isAsked b ≡ true → t ≡ [] → readBehind n w b t ≡ Good (Message (Question n))
+reads-question : (n : ℕ) (w : Letters) (b : Behind) (t : List ℕ) → isAsked b ≡ true → t ≡ []
+    → readBehind n w b t ≡ Good (Message (Question n))
 reads-question n w (ANumber width limit) t e none = rw none
 reads-question n w AVersion t e none = rw none
 reads-question n w AClock t e none = rw none
@@ -124,11 +122,12 @@ message-read : (bs : List ℕ) (m : MessageType.Message) → IsFrame bs (Message
 unfolding isNumber behind oneOf wordFrom
 message-read bs (Question n) h =
     reads bs n (behind n) (h .0) (ap word (h .1) ∙ listed-word n (asked-listed (behind n) (h .2 .0))) refl
-    ∙ reads-question n (asLetters (lettersOfIt bs)) (behind n) (behindIn bs) (h .2 .0) (h .2 .1)
+    ∙ reads-question n (asLetters (capitalsIn bs)) (behind n) (behindIn bs) (h .2 .0) (h .2 .1)
 message-read bs (Number n k) h =
     let e = h .2 .2 in
     let fits = h .2 .3 in
-    let some : 0 < length (behindIn bs) = omega (arith, number-fits n (h .2 .0) (h .2 .1) e, eqb-true (length (behindIn bs)) (h .2 .0) (search tests)) in
+    let long : length (behindIn bs) ≡ h .2 .0 = eqb-true (length (behindIn bs)) (h .2 .0) (search tests) in
+    let some : 0 < length (behindIn bs) = omega (arith, number-fits n (h .2 .0) (h .2 .1) e) in
     reads bs n (ANumber (h .2 .0) (h .2 .1)) (h .0) (ap word (h .1) ∙ listed-word n (rw e)) e
     ∙ reads-response n (behindIn bs) _ some
     ∙ (λ i. messageIf (fits i) (Number n (sym (h .2 .4) i)))
@@ -166,7 +165,8 @@ pub family4-exact : (bs : List ℕ) (f : Frame) → (readOne 4 bs ≡ Good f) �
 family4-exact bs = exact-for 4 bs (tells bs) (is-read bs)
 
 -- where they are no message, and only there, they are refused, with number 8.
-pub family4-refused : (bs : List ℕ) (n : ℕ) → (readOne 4 bs ≡ Refused n) ↔ (((f : Frame) → familyOf (kindOf f) ≡ 4 → IsFrame bs f → ⊥) × (n ≡ notGood))
+pub family4-refused : (bs : List ℕ) (n : ℕ)
+    → (readOne 4 bs ≡ Refused n) ↔ (((f : Frame) → familyOf (kindOf f) ≡ 4 → IsFrame bs f → ⊥) × (n ≡ notGood))
 family4-refused bs = refused-for 4 bs (tells bs) (is-read bs)
 
 -- The body that is laid out for a message in range is one,
@@ -211,7 +211,7 @@ module _ (m : MessageType.Message) (fits : messageInRange m ≡ true) where
       let found = ap lettersIn (body-back (laidBody m)) ∙ ap (map capital) run ∙ capitals-same (wordLetters (wordOf m)) capitals in
       let rest = ap behindLetters (body-back (laidBody m)) ∙ letters-behind (wordLetters (wordOf m)) (behindText m) letters ends in (
         frame-message (laidBody m) laid-is-body,
-        laid-out .letters (lettersOfIt (messageFrame (laidBody m))) .1 found,
+        laid-out .letters (capitalsIn (messageFrame (laidBody m))) .1 found,
         subst⁻¹ (IsBehind m) rest (laid-out .stands),
       )
 
@@ -230,7 +230,8 @@ pub family4-back : (f : Frame) → familyOf (kindOf f) ≡ 4 → allowed f ≡ t
 family4-back = for-messages (λ (f : Frame). allowed f ≡ true → readOne 4 (bytesOf f) ≡ Good f) message-back
 
 -- What was read and has a writer may be written,
-message-allowed : (bs : List ℕ) (m : MessageType.Message) → IsFrame bs (Message m) → hasWriter (Message m) ≡ true → allowed (Message m) ≡ true
+message-allowed : (bs : List ℕ) (m : MessageType.Message) → IsFrame bs (Message m)
+    → hasWriter (Message m) ≡ true → allowed (Message m) ≡ true
 unfolding allowed
 message-allowed bs m h writer = behind-in-range m (behindIn bs) writer (h .2)
 
@@ -239,27 +240,40 @@ family4-allowed bs f e =
     let h = family4-exact bs f .0 e in
     for-messages (λ (k : Frame). IsFrame bs k → hasWriter k ≡ true → allowed k ≡ true) (message-allowed bs) f (h .0) (h .1)
 
--- as its letters in capitals and what stood behind them;
-message-again : (bs : List ℕ) (m : MessageType.Message) → IsFrame bs (Message m) → hasWriter (Message m) ≡ true
-    → (bytesOf (Message m) ≡ bs) ↔ (inForm (Message m) bs ≡ true)
-unfolding bytesOf inForm
-message-again bs m h writer =
-    let body = bodyOf bs in
-    let run = letterRun body in
-    let ls = lettersOfIt bs in
-    let t = behindIn bs in
-    let laid-m = laid m (behind-in-range m t writer (h .2)) in
-    let written : messageBytes m ≡ messageFrame (ls ++ t) =
-        laid-m .bytes ∙ (λ i. messageFrame (sym (laid-m .letters ls .0 (h .1)) i ++ sym (laid-m .only t (h .2)) i)) in
-    let own = message-frame bs (h .0) in
-    let form = laid-m .form body in
-    let found = letters-run ls t (capitals-letters ls (in-capitals body)) (run-ends body) in (
-      λ e. form ∙ subst (λ (l : List ℕ). every isCapital l ≡ true) (sym found ∙ ap letterRun (sym (body-back (ls ++ t)) ∙ ap bodyOf (sym written ∙ e))) (in-capitals body),
-      λ e. written ∙ ap messageFrame (ap (λ (l : List ℕ). l ++ t) (capitals-same run (sym form ∙ e)) ∙ run-front body) ∙ sym own,
-    )
+-- and is written as its letters in capitals and what stood behind them;
+module _ (bs : List ℕ) (m : MessageType.Message) (h : IsFrame bs (Message m)) (writer : hasWriter (Message m) ≡ true) where
+  own-layout : Laid m (wordOf m) (behindText m)
+  own-layout = laid m (behind-in-range m (behindIn bs) writer (h .2))
 
--- so it gives its own bytes if, and only if, its letters were capitals.
+  written : messageBytes m ≡ messageFrame (capitalsIn bs ++ behindIn bs)
+  written =
+      let letters = sym (own-layout .letters (capitalsIn bs) .0 (h .1)) in
+      let behind-them = sym (own-layout .only (behindIn bs) (h .2)) in
+      own-layout .bytes ∙ (λ i. messageFrame (letters i ++ behind-them i))
+
+  -- in these bytes the capitals are found, and where its letters were capitals they are its own.
+  found-again : messageBytes m ≡ bs → capitalsIn bs ≡ letterRun (bodyOf bs)
+  found-again e =
+      let capitals = capitals-letters (capitalsIn bs) (in-capitals (bodyOf bs)) in
+      sym (letters-run (capitalsIn bs) (behindIn bs) capitals (run-ends (bodyOf bs)))
+      ∙ ap letterRun (sym (body-back (capitalsIn bs ++ behindIn bs)) ∙ ap bodyOf (sym written ∙ e))
+
+  own-again : every isCapital (letterRun (bodyOf bs)) ≡ true → messageBytes m ≡ bs
+  own-again e =
+      let same-letters = ap (λ (l : List ℕ). l ++ behindIn bs) (capitals-same (letterRun (bodyOf bs)) e) in
+      written ∙ ap messageFrame (same-letters ∙ run-front (bodyOf bs)) ∙ sym (message-frame bs (h .0))
+
+  message-again : (bytesOf (Message m) ≡ bs) ↔ (inForm (Message m) bs ≡ true)
+  unfolding bytesOf inForm
+  message-again =
+      let form = own-layout .form (bodyOf bs) in (
+        λ e. form ∙ subst (λ (l : List ℕ). every isCapital l ≡ true) (found-again e) (in-capitals (bodyOf bs)),
+        λ e. own-again (sym form ∙ e),
+      )
+
+-- So it gives its own bytes if, and only if, its letters were capitals.
 pub family4-again : (bs : List ℕ) (f : Frame) → readOne 4 bs ≡ Good f → hasWriter f ≡ true → (bytesOf f ≡ bs) ↔ (inForm f bs ≡ true)
 family4-again bs f e =
     let h = family4-exact bs f .0 e in
-    for-messages (λ (k : Frame). IsFrame bs k → hasWriter k ≡ true → (bytesOf k ≡ bs) ↔ (inForm k bs ≡ true)) (message-again bs) f (h .0) (h .1)
+    for-messages (λ (k : Frame). IsFrame bs k → hasWriter k ≡ true → (bytesOf k ≡ bs) ↔ (inForm k bs ≡ true))
+    (message-again bs) f (h .0) (h .1)

@@ -33,7 +33,8 @@ module _ (family : ℕ) (bs : List ℕ) (tells : ReadsAs family bs (readOne fami
   exact-for f = (λ e. subst (ReadsAs family bs) e tells, λ h. read f (h .0) (h .1))
 
   -- where they are no such frame, and only there, they are refused, with number 8.
-  pub refused-for : (n : ℕ) → (readOne family bs ≡ Refused n) ↔ (((f : Frame) → familyOf (kindOf f) ≡ family → IsFrame bs f → ⊥) × (n ≡ notGood))
+  pub refused-for : (n : ℕ)
+      → (readOne family bs ≡ Refused n) ↔ (((f : Frame) → familyOf (kindOf f) ≡ family → IsFrame bs f → ⊥) × (n ≡ notGood))
   refused-for n = (
     λ e. (λ f own h. never f (read f own h) e, subst (ReadsAs family bs) e tells),
     λ h. by-answer h (readOne family bs) refl tells,
