@@ -23,12 +23,12 @@ pub capital-letter : (b : ℕ) → isCapital b ≡ true → isLetter b ≡ true
 unfolding isLetter
 capital-letter b e = rw e
 
-capital-same : (b : ℕ) → isCapital b ≡ true → capital b ≡ b
+pub capital-same : (b : ℕ) → isCapital b ≡ true → capital b ≡ b
 unfolding capital
 capital-same b e = let h = between-bounds 65 90 b e in rw (lt-leb 97 b (omega arith))
 
 -- and every letter is read as a capital.
-letter-capital : (b : ℕ) → isLetter b ≡ true → isCapital (capital b) ≡ true
+pub letter-capital : (b : ℕ) → isLetter b ≡ true → isCapital (capital b) ≡ true
 unfolding isLetter capital
 letter-capital b e =
     ⊎-elim
