@@ -1,6 +1,6 @@
 -- Demand 2, over all kinds of frames: reading is exact, what is written reads back, and what is read and written again is
--- the same exactly where it stood in the writer's form. The families' own theorems stand in `Spe`, `Alpha` and
--- `Messages`.
+-- the same exactly where it stood in the writer's form. The families' own theorems stand in `Spe`, `Alpha`,
+-- `MessageReading` and `Messages`.
 -- Assumes nothing.
 use Prim.Native.Nat.{ℕ, _≤_}
 use mathlib.Core.Path.{_≡_, refl, sym, ap, subst, _∙_}
@@ -25,7 +25,8 @@ use Rattle.frame_laws.proofs.Exact.{IsFrame}
 use Rattle.frame_laws.proofs.Reading.{ReadsAs, message-family}
 use Rattle.frame_laws.proofs.Spe.{Answer1, Answer3, answer-1, answer-3, ack-exact, status-exact, command-exact, ack-back, command-back, status-back, family1-allowed, family3-allowed, family1-again, family3-again}
 use Rattle.frame_laws.proofs.Alpha.{family2-exact, family2-back, family2-allowed, family2-again}
-use Rattle.frame_laws.proofs.Messages.{family4-exact, family4-back, family4-allowed, family4-again}
+use Rattle.frame_laws.proofs.MessageReading.{family4-exact}
+use Rattle.frame_laws.proofs.Messages.{family4-back, family4-allowed, family4-again}
 
 -- These bytes are, as a whole, this frame of this family, by the definitions.
 abbrev pub IsOne : ℕ → List ℕ → Frame → Type 0

@@ -1,7 +1,7 @@
 -- Laws about the definitions, file by file as those stand; what answers say in the terms of document 01, and that each
 -- promise leaves one answer. `Exact` says what it is to be a frame of each kind; `Spe` has the theorems of families 1 and
--- 3, which `Comma`, `Report` and `Form` serve, `Alpha` those of family 2, and `Messages` those of family 4, which `Letters`,
--- `Pairs`, `Listed` and `MessageParts` serve.
+-- 3, which `Comma`, `Report` and `Form` serve, `Alpha` those of family 2, and `MessageReading` and `Messages` those of family
+-- 4, which `Letters`, `Pairs`, `Listed` and `MessageParts` serve.
 pub mod Tables
 pub mod Bytes
 pub mod Lists
@@ -23,4 +23,5 @@ pub mod Letters
 pub mod Pairs
 pub mod Listed
 pub mod MessageParts
+pub mod MessageReading
 pub mod Messages

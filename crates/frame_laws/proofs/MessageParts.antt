@@ -28,13 +28,16 @@ use Rattle.frame_laws.proofs.Reading.{choice}
 use Rattle.frame_laws.proofs.Pairs.{number-good, number-again, isPair, pairsIn, pairs-good, pairs-read, pairs-length, pairs-front, pairs-below, pairs-again, pairs-bytes}
 use Rattle.frame_laws.proofs.Listed.{isListed, asked-listed, listed-length, number-fits}
 
--- A byte of a body, by its number; a digit is one, and no letter.
-pub body-byte : (b : ℕ) → 32 ≤ b → b ≤ 126 → b ≢ 94 → b ≢ 59 → isBodyByte b ≡ true
+-- Digits and capitals are bytes of a body, being neither caret nor semicolon; and a digit is no letter.
+body-byte : (b : ℕ) → 48 ≤ b → b ≤ 90 → b ≢ 59 → isBodyByte b ≡ true
 unfolding isBodyByte
-body-byte b low high caret semicolon = rw (le-leb 32 b low, le-leb b 126 high, ne-eqb b 94 caret, ne-eqb b 59 semicolon)
+body-byte b low high semicolon = rw (le-leb 32 b (omega arith), le-leb b 126 (omega arith), ne-eqb b 94 (omega arith), ne-eqb b 59 semicolon)
 
 digit-byte : (b : ℕ) → isDigit b ≡ true → isBodyByte b ≡ true
-digit-byte b e = let h = between-bounds 48 57 b e in body-byte b (omega arith) (omega arith) (omega arith) (omega arith)
+digit-byte b e = let h = between-bounds 48 57 b e in body-byte b (omega arith) (omega arith) (omega arith)
+
+pub capital-byte : (b : ℕ) → isCapital b ≡ true → isBodyByte b ≡ true
+capital-byte b e = let h = between-bounds 65 90 b e in body-byte b (omega arith) (omega arith) (omega arith)
 
 digit-no-letter : (b : ℕ) → isDigit b ≡ true → isLetter b ≡ false
 unfolding isLetter
@@ -50,6 +53,7 @@ pub record Plain (t : List ℕ) : Type 0 where
   pub ends : isLetter (first t) ≡ false
   pub clean : every isBodyByte t ≡ true
 
+-- so are nothing, a number and pairs
 nothing-plain : Plain []
 unfolding isLetter every
 nothing-plain = record { ends = refl; clean = refl }
@@ -86,6 +90,7 @@ clock-pairs c e =
     below : (n most : ℕ) → leb n most ≡ true → most ≤ 99 → isPair n ≡ true
     below n most h less = le-leb n 99 (omega (arith, leb-true n most h))
 
+-- of a version they are two
 two-pairs : (a b : ℕ) → every isPair (a ∷ b ∷ []) ≡ (isPair a && isPair b)
 unfolding every
 two-pairs a b = ap (λ (x : Bool). isPair a && x) (and-true (isPair b))
