@@ -27,16 +27,16 @@ use Rattle.frame_laws.proofs.MessageParts.{capital-byte, Laid, laid, be
 use Rattle.frame_laws.proofs.MessageReading.{capitalsIn, behindIn, message-read, for-messages, family4-exact}
 
 -- The frame: a body that is framed is found again, and is a message; and a message is its framed body.
-body-back : (body : List ℕ) → bodyOf (messageFrame body) ≡ body
+pub body-back : (body : List ℕ) → bodyOf (messageFrame body) ≡ body
 body-back body = take-at body (code ";" ∷ []) (length (messageFrame body) - 2) (omega (arith, length-append body (code ";" ∷ [])))
 
-frame-message : (body : List ℕ) → isBody body ≡ true → isMessage (messageFrame body) ≡ true
+pub frame-message : (body : List ℕ) → isBody body ≡ true → isMessage (messageFrame body) ≡ true
 unfolding isMessage
 frame-message body good =
     let bs = messageFrame body in
     both-pass _ _ (eq-same bs (messageFrame (bodyOf bs)) (ap messageFrame (sym (body-back body)))) (ap isBody (body-back body) ∙ good)
 
-message-frame : (bs : List ℕ) → isMessage bs ≡ true → bs ≡ messageFrame (bodyOf bs)
+pub message-frame : (bs : List ℕ) → isMessage bs ≡ true → bs ≡ messageFrame (bodyOf bs)
 unfolding isMessage
 message-frame bs good = same-eq bs (messageFrame (bodyOf bs)) (search tests)
 
