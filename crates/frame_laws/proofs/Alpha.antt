@@ -127,7 +127,6 @@ family2-back (Apa03 r) alpha fits =
     reads-written kind03 3 (lit< tt) r fits ∙ reads03 (texts03 r) (kind03 .good r fits) ∙ ap (λ x. Good (Apa03 x)) (kind03 .back r fits)
 family2-back (Apa05 r) alpha fits =
     reads-written kind05 5 (lit< tt) r fits ∙ reads05 (texts05 r) (kind05 .good r fits) ∙ ap (λ x. Good (Apa05 x)) (kind05 .back r fits)
-family2-back (Message m) alpha fits = absurd (omega (arith, message-family m, alpha))
 family2-back (Other n) alpha fits = absurd (false≢true fits)
 family2-back (Message m) alpha fits = absurd (no-message m alpha)
 
@@ -146,7 +145,6 @@ family2-allowed bs (Apa03 r) e writer =
 family2-allowed bs (Apa05 r) e writer =
     let h = family2-exact bs (Apa05 r) .0 e .1 in
     ap inRange05 (h .2) ∙ kind05 .range (textsIn bs) (h .1)
-family2-allowed bs (Message m) e writer = absurd (omega (arith, message-family m, family2-exact bs (Message m) .0 e .0))
 family2-allowed bs (Other n) e writer = absurd (false≢true writer)
 family2-allowed bs (Message m) e writer = absurd (no-message m (family2-exact bs (Message m) .0 e .0))
 
@@ -165,6 +163,5 @@ family2-again bs (Apa03 r) e writer =
 family2-again bs (Apa05 r) e writer =
     let h = family2-exact bs (Apa05 r) .0 e .1 in
     rw (h .2) (written-again kind05 5 (lit< tt) bs (h .0 .0) (h .0 .1) (h .1))
-family2-again bs (Message m) e writer = absurd (omega (arith, message-family m, family2-exact bs (Message m) .0 e .0))
 family2-again bs (Other n) e writer = absurd (false≢true writer)
 family2-again bs (Message m) e writer = absurd (no-message m (family2-exact bs (Message m) .0 e .0))

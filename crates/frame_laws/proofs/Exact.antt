@@ -54,6 +54,5 @@ IsFrame bs (Command c) = (bs ≡ command c) × (isCode c ≡ true)
 IsFrame bs (Apa02 r) = IsNumbered bs 2 × (is02 (textsIn bs) ≡ true) × (r ≡ sentence02 (textsIn bs))
 IsFrame bs (Apa03 r) = IsNumbered bs 3 × (is03 (textsIn bs) ≡ true) × (r ≡ sentence03 (textsIn bs))
 IsFrame bs (Apa05 r) = IsNumbered bs 5 × (is05 (textsIn bs) ≡ true) × (r ≡ sentence05 (textsIn bs))
-IsFrame bs (Message m) = ⊥
 IsFrame bs (Other n) = IsNumbered bs n × (n ≢ 2) × (n ≢ 3) × (n ≢ 5)
 IsFrame bs (Message m) = (isMessage bs ≡ true) × AreLetters m (lettersIn (bodyOf bs)) × IsBehind m (behindLetters (bodyOf bs))

@@ -7,7 +7,6 @@ use lib.Dec.{eqb}
 use Rattle.rules.specs.Bytes.{oneOf, same}
 use Rattle.rules.specs.Codes.{isAck, isCommand}
 use Rattle.rules.specs.Status.{isStatus}
-use Rattle.rules.specs.Messages.{isMessage, bodyOf, lettersIn, behindLetters, word, asLetters, behind, isNumber, arePairs, versionMarks, clockMarks, clockOf, clockInRange}
 use Rattle.rules.specs.Sentences.{isSentence, payloadOf, numberOf, textsOf, is02, is03, is05}
 use Rattle.rules.specs.Messages.{isMessage, bodyOf, lettersIn, behindLetters, word, asLetters, behind, isNumber, arePairs, versionMarks, clockMarks, clockOf, clockInRange}
 use Rattle.rules.specs.Answers.{no, noFamily, notGood, said, valuesOr8, readFamily1, readTexts, readFamily2, readFamily3, orQuestion, readBehind, readBody, readFamily4, readOne, isFamily, Reads}
