@@ -108,9 +108,9 @@ module _ (family : ℕ) (is : Bracketed family) (s : List ℕ) where
 
   -- a start in the run behind a byte
   pub in-the-run : (j : ℕ) → 0 < j → j ≤ run (bracketsOf family) s → SettledBy family (drop j s) 1
-  in-the-run j some within = unopened j (omega (arith, run-within k (drop 1 s), length-drop 1 s)) opening
+  in-the-run j some within = unopened j (omega (arith, run-within (bracketsOf family) (drop 1 s), length-drop 1 s)) opening
     where
-      abbrev k : Brackets
+      k : Brackets
       k = bracketsOf family
 
       byte : isInner k (getD s j 0) ≡ true

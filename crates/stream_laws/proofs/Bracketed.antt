@@ -7,7 +7,7 @@ use mathlib.Core.Path.{_≡_, refl, sym, ap, _∙_}
 use mathlib.Core.Bool.{Bool, true, false, _||_, cond, false≢true}
 use mathlib.Core.List.{List, _∷_, [], _++_, append-assoc}
 use native.Mathlib.Omega.{arith}
-use lib.Dec.{eqb}
+use lib.Dec.{eqb, lit≤}
 use lib.ListN.{length, take, drop, getD, length-take, length-drop, length-append}
 use lib.Seq.{getD-at}
 use borrow.Author.Tests.{eqb-true}
@@ -20,7 +20,7 @@ use Rattle.rules.specs.Answers.{replies, sentences, commands, messages, noFamil
 use Rattle.rules.specs.declared.Frame.{Frame}
 use Rattle.rules.specs.declared.Reading.the-variants.{Good, Refused}
 use Rattle.frame_laws.proofs.Bytes.{tests, same-eq, between-bounds}
-use Rattle.stream_rules.specs.Heads.{isSpe, bracketsOf, around, isInner, innerRun, longest, shortest, lengthAt}
+use Rattle.stream_rules.specs.Heads.{isSpe, sentenceBrackets, messageBrackets, bracketsOf, around, isInner, innerRun, longest, shortest, lengthAt}
 use Rattle.stream_rules.specs.declared.Brackets.{Brackets}
 use Rattle.stream_laws.proofs.Lists.{front-and-rest}
 use Rattle.stream_laws.proofs.Course.{passed}
@@ -110,3 +110,11 @@ module _ (family : ℕ) (is : Bracketed family) where
 
   pub length-is : (bs : List ℕ) → lengthAt family bs ≡ around (bracketsOf family) (run (bracketsOf family) bs)
   length-is bs = rw (is .no-spe)
+
+-- No brackets hold more than 128 bytes, or have more than four behind them.
+pub small : (family : ℕ) → (bracketsOf family .most ≤ 128) × (bracketsOf family .tail ≤ 4)
+small family = by (eqb family messages)
+  where
+    by : (b : Bool) → let k = cond b messageBrackets sentenceBrackets in (k .most ≤ 128) × (k .tail ≤ 4)
+    by true = (lit≤ tt, lit≤ tt)
+    by false = (lit≤ tt, lit≤ tt)
