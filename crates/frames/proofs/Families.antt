@@ -24,6 +24,7 @@ module _ (bs : List ℕ) where
   unfolding readOne
   family4 = refl
 
-pub no-family : (family : ℕ) (bs : List ℕ) → (family ≡ 1 → ⊥) → (family ≡ 2 → ⊥) → (family ≡ 3 → ⊥) → (family ≡ 4 → ⊥) → Refused 1 ≡ readOne family bs
+pub no-family : (family : ℕ) (bs : List ℕ) → (family ≡ 1 → ⊥) → (family ≡ 2 → ⊥) → (family ≡ 3 → ⊥) → (family ≡ 4 → ⊥)
+    → Refused 1 ≡ readOne family bs
 unfolding readOne
-no-family family bs n m k j = rw (ne-eqb family 1 n, ne-eqb family 2 m, ne-eqb family 3 k, ne-eqb family 4 j)
+no-family family bs n m k l = rw (ne-eqb family 1 n, ne-eqb family 2 m, ne-eqb family 3 k, ne-eqb family 4 l)
