@@ -1,8 +1,8 @@
 // What is known of a start before a frame is read there: a bad start with the number of bytes that settled
 // it, an undecided one, or as many bytes as a frame there has. The frame is read by whoever wants it.
 use starts::bytes_needed;
-use starts::mark_of;
 use starts::inner_bytes;
+use starts::mark_of;
 use stream_rules::Brackets;
 ghost use mathlib.Core.Path.{_≡_};
 ghost use mathlib.Core.Bool.{true, false};
