@@ -6,7 +6,7 @@ use lib.Dec.{leb}
 use lib.ListN.{length, drop}
 use Rattle.rules.specs.Answers.{isFamily, kindOf}
 use Rattle.rules.specs.declared.Kind.{Kind}
-use Rattle.rules.specs.declared.Kind.the-variants.{OfAck, OfStatus, OfCommand, OfSentence}
+use Rattle.rules.specs.declared.Kind.the-variants.{OfAck, OfStatus, OfCommand, OfSentence, OfQuestion, OfResponse, OfLetters}
 use Rattle.stream_rules.specs.Heads.{head}
 use Rattle.stream_rules.specs.Rule.{Found, rule}
 use Rattle.stream_rules.specs.Lister.{fits}
@@ -21,6 +21,9 @@ isReport (OfAck c) = false
 isReport OfStatus = true
 isReport (OfCommand c) = false
 isReport (OfSentence n) = false
+isReport (OfQuestion letters) = false
+isReport (OfResponse letters) = false
+isReport (OfLetters w) = false
 
 -- A frame is spanOf with the place just behind it; where none is left, the part is empty and the place unchanged.
 abbrev pub spanOf : Found → Span

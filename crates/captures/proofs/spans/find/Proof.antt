@@ -12,9 +12,11 @@ use denote.Enum.Declared.{tagOf}
 use borrow.Author.Tests.{not-true, not-false, le-leb, lt-leb, leb-false}
 use lib.Dec.{leb}
 use lib.ListN.{length}
-use Rattle.rules.specs.Answers.{isFamily, kindOf}
+use Rattle.rules.specs.Answers.{isFamily, kindOf, messageKind}
+use Rattle.rules.specs.declared.Message as MessageType
+use Rattle.rules.specs.declared.Message.the-variants.{Question, Number, Version, Clock, Tune, OtherLetters}
 use Rattle.rules.specs.declared.Frame.{Frame}
-use Rattle.rules.specs.declared.Frame.the-variants.{Ack, Status, Command, Apa02, Apa03, Apa05, Other}
+use Rattle.rules.specs.declared.Frame.the-variants.{Ack, Status, Command, Apa02, Apa03, Apa05, Other, Message}
 use Rattle.rules.proofs.Frame.{the-type}
 use Rattle.stream_rules.specs.Lister.{fits}
 use Rattle.search.proofs.Walk.{left, Next, next, no-next, at-end}
@@ -23,15 +25,25 @@ use Rattle.captures.specs.Finds.{isReport, nothing, firstWanted, nextIn}
 use Rattle.captures.proofs.spans.find.Statement.{statement}
 use Rattle.captures.proofs.spans.find.Tie as tie
 
+-- no message is a report
+no-message : (m : MessageType.Message) → isReport (messageKind m) ≡ false
+no-message (Question letters) = refl
+no-message (Number letters n) = refl
+no-message (Version a b) = refl
+no-message (Clock c) = refl
+no-message Tune = refl
+no-message (OtherLetters w) = refl
+
 -- a frame that is no status report
-not-report : (f : Frame) → OneOf (0 ∷ 2 ∷ 3 ∷ 4 ∷ 5 ∷ 6 ∷ []) (tagOf the-type f) → isReport (kindOf f) ≡ false
+not-report : (f : Frame) → OneOf (0 ∷ 2 ∷ 3 ∷ 4 ∷ 5 ∷ 6 ∷ 7 ∷ []) (tagOf the-type f) → isReport (kindOf f) ≡ false
 not-report (Ack c) keys = refl
-not-report (Status s) keys = absurd (miss (0 ∷ 2 ∷ 3 ∷ 4 ∷ 5 ∷ 6 ∷ []) 1 tt keys)
+not-report (Status s) keys = absurd (miss (0 ∷ 2 ∷ 3 ∷ 4 ∷ 5 ∷ 6 ∷ 7 ∷ []) 1 tt keys)
 not-report (Command c) keys = refl
 not-report (Apa02 r) keys = refl
 not-report (Apa03 r) keys = refl
 not-report (Apa05 r) keys = refl
 not-report (Other n) keys = refl
+not-report (Message m) keys = no-message m
 
 module _ (family : ℕ) (bs : List ℕ) (place : ℕ) (reports : Bool) where
   -- What is wanted, by the three tests.
