@@ -9,20 +9,21 @@ use rules::Reading;
 use texts::digits;
 use texts::text;
 ghost use mathlib.Core.Path.{_≡_};
-ghost use mathlib.Core.Bool.{true};
+ghost use mathlib.Core.Bool.{true, _&&_};
 ghost use Prim.Native.Nat.{_+_, _*_, _≤_};
-ghost use lib.ListN.{length};
+ghost use lib.Dec.{eqb};
+ghost use lib.ListN.{length, getD};
 ghost use Rattle.rules.specs.Bytes.{every, part};
 ghost use Rattle.rules.specs.Numbers.{isDigit};
 ghost use Rattle.rules.specs.Messages.{arePairs, pairAt, clockMarks, clockOf};
 ghost use Rattle.rules.specs.Answers.{readNumber, readVersion, readClock, readTune};
-ghost use Rattle.rules.specs.declared.Frame.the-variants.{Message};
+ghost use Rattle.rules.specs.declared.Frame.the-variants.{Message as FrameOf};
 ghost use Rattle.rules.specs.declared.Message.the-variants.{Question};
 ghost use Rattle.rules.specs.declared.Reading.the-variants.{Good};
 
 // A question.
 fn question(letters: u32) -> Reading
-    ensures { λ r. ⌜ r ≡ Good (Message (Question letters)) ⌝ }
+    ensures { λ r. ⌜ r ≡ Good (FrameOf (Question letters)) ⌝ }
 {
     Reading::Good(Frame::Message(Message::Question(letters)))
 }
@@ -80,7 +81,7 @@ fn pair_at(t: &[u8], k: usize) -> u8
     requires { ⌜ k ≤ 5 ⌝ }
     ensures { λ r. ⌜ (every isDigit (part (3 * k) 2 (now (t .entry))) ≡ true → r ≡ pairAt (now (t .entry)) k) ⌝ }
 {
-    (digits(text(t, 3 * k, 2)).count % 256) as u8
+    digits(text(t, 3 * k, 2)).count as u8
 }
 
 // A version, or a question.

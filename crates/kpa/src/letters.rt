@@ -5,7 +5,7 @@ ghost use mathlib.Core.Path.{_≡_};
 ghost use mathlib.Core.List.{map};
 ghost use Prim.Native.Nat.{_≤_, _/_, _%_, _^_};
 ghost use lib.ListN.{length};
-ghost use Rattle.rules.specs.Messages.{isLetter, capital, letterRun, word, wordLetters, asLetters};
+ghost use Rattle.rules.specs.Messages.{isLetter, capital, letterRun, word, wordAt, wordLetters, asLetters};
 ghost use Rattle.kpa.specs.Words.{wordBytes};
 
 // Whether b is a letter, in either case.
@@ -53,21 +53,29 @@ pub(crate) fn word_of(letters: &[u8]) -> u32
     n
 }
 
-// Letters as ten numbers: the four from a place on in each.
+// The k-th four of letters as one number.
+fn word_at(letters: &[u8], k: usize) -> u32
+    requires { ⌜ k ≤ 9 ⌝ }
+    ensures { λ r. ⌜ r ≡ wordAt (map capital (now (letters .entry))) k ⌝ }
+{
+    word_of(text(letters, 4 * k, 4))
+}
+
+// Letters as ten numbers, four in each.
 pub(crate) fn letters_of(letters: &[u8]) -> Letters
     ensures { λ r. ⌜ r ≡ asLetters (map capital (now (letters .entry))) ⌝ }
 {
     Letters {
-        first: word_of(text(letters, 0, 4)),
-        second: word_of(text(letters, 4, 4)),
-        third: word_of(text(letters, 8, 4)),
-        fourth: word_of(text(letters, 12, 4)),
-        fifth: word_of(text(letters, 16, 4)),
-        sixth: word_of(text(letters, 20, 4)),
-        seventh: word_of(text(letters, 24, 4)),
-        eighth: word_of(text(letters, 28, 4)),
-        ninth: word_of(text(letters, 32, 4)),
-        tenth: word_of(text(letters, 36, 4)),
+        first: word_at(letters, 0),
+        second: word_at(letters, 1),
+        third: word_at(letters, 2),
+        fourth: word_at(letters, 3),
+        fifth: word_at(letters, 4),
+        sixth: word_at(letters, 5),
+        seventh: word_at(letters, 6),
+        eighth: word_at(letters, 7),
+        ninth: word_at(letters, 8),
+        tenth: word_at(letters, 9),
     }
 }
 

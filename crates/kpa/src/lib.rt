@@ -27,7 +27,7 @@ ghost use mathlib.Core.List.{map};
 ghost use Rattle.rules.specs.Bytes.{every};
 ghost use Rattle.rules.specs.Messages.{isBodyByte, isMessage, capital, asLetters};
 ghost use Rattle.rules.specs.Answers.{messages, Reads, isGood, readBody};
-ghost use Rattle.rules.specs.declared.Frame.the-variants.{Message};
+ghost use Rattle.rules.specs.declared.Frame.the-variants.{Message as FrameOf};
 ghost use Rattle.rules.specs.declared.Message.the-variants.{OtherLetters};
 ghost use Rattle.rules.specs.declared.Reading.the-variants.{Good};
 
@@ -91,7 +91,7 @@ fn are_body_bytes(body: &[u8]) -> bool
 
 // Letters that are not listed.
 fn other(letters: &[u8]) -> Reading
-    ensures { λ r. ⌜ r ≡ Good (Message (OtherLetters (asLetters (map capital (now (letters .entry)))))) ⌝ }
+    ensures { λ r. ⌜ r ≡ Good (FrameOf (OtherLetters (asLetters (map capital (now (letters .entry)))))) ⌝ }
 {
     Reading::Good(Frame::Message(Message::OtherLetters(letters_of(letters))))
 }

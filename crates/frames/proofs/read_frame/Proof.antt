@@ -15,6 +15,9 @@ read-sentence-requires c κs = search needs
 read-command-requires : tie.Need-read-command-requires
 read-command-requires c κs = search needs
 
+read-message-requires : tie.Need-read-message-requires
+read-message-requires c κs = search needs
+
 returns : tie.Need-returns
 returns c = rw (c .before .match .keys1) (c .read-reply .ensures)
 
@@ -25,9 +28,12 @@ returns-3 : tie.Need-returns-3
 returns-3 c = rw (c .before .match .keys3) (c .read-command .ensures)
 
 returns-4 : tie.Need-returns-4
-returns-4 c =
+returns-4 c = rw (c .before .match .keys4) (c .read-message .ensures)
+
+returns-5 : tie.Need-returns-5
+returns-5 c =
     let others = c .match .rest in
-    reads (no-family _ _ (others .0 .0 .1) (others .0 .1) (others .1))
+    reads (no-family _ _ (others .0 .0 .0 .1) (others .0 .0 .1) (others .0 .1) (others .1))
 
 pub read-frame-spec : {M : Type 1} → statement M
 read-frame-spec =
@@ -36,7 +42,9 @@ read-frame-spec =
     read-reply-requires
     read-sentence-requires
     read-command-requires
+    read-message-requires
     returns
     returns-2
     returns-3
-    returns-4)
+    returns-4
+    returns-5)

@@ -1,0 +1,4 @@
+-- Laws of letters and the numbers that hold them, of what stands behind letters, and of the frame.
+pub mod Words
+pub mod Responses
+pub mod Frames
