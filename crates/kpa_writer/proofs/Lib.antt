@@ -1,3 +1,2 @@
--- What the proofs of the writers share: letters as they are laid, and numbers in their digits.
-pub mod Letters
+-- What the proofs of the writers share: numbers in their digits.
 pub mod Numbers

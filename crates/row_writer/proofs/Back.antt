@@ -14,7 +14,7 @@ use Rattle.rules.specs.Bytes.{ascii, oneOf, every}
 use Rattle.rules.specs.Status.{by, fieldsInRange, statusInRange, warnings, alarms}
 use Rattle.rules.specs.Sentences.{fit, numbers02, inRange02, numbers03, inRange03, inRange05}
 use Rattle.rules.specs.Answers.{numbers05, messageKind, kindOf, values, allowed}
-use Rattle.rules.specs.Messages.{wordFrom, word, behind, isUpTo, widthOf, daysIn, clockInRange, clockNumbers, messageInRange, messageNumbers}
+use Rattle.rules.specs.Messages.{wordFrom, word, behind, isUpTo, daysIn, clockInRange, clockNumbers, messageInRange, messageNumbers}
 use Rattle.rules.specs.declared.Clock as ClockType
 use Rattle.rules.specs.declared.Behind.{Behind}
 use Rattle.rules.specs.declared.Behind.the-variants.{ANumber, AVersion, AClock, Alone, Anything}
@@ -28,7 +28,7 @@ use Rattle.rules.specs.declared.Frame.{Frame}
 use Rattle.rules.specs.declared.Frame.the-variants.{Ack, Status, Command, Apa02, Apa03, Apa05, Other, Message as MessageOf}
 use Rattle.frame_laws.proofs.Bytes.{tests, both-pass, one-of-these}
 use Rattle.frame_laws.proofs.Report.{fits}
-use Rattle.kpa_writer.proofs.Numbers.{fits-behind}
+use Rattle.frame_laws.proofs.Listed.{number-fits}
 use Rattle.rows.specs.Rows.{kindRow, codeOf}
 use Rattle.row_writer.specs.declared.given.Given.the-variants.{AFrame}
 use Rattle.row_writer.specs.Given.{atMost, aTemperature, numberUpTo, temperatureOf, valueAt, byteLimit, wordLimit, isStatusRow, isRowOf, isRow03, statusFrom, from02, from03, from05, clockFrom, sentenceGiven, behindGiven, responseGiven, frameGiven}
@@ -243,24 +243,24 @@ module _ (s : StatusType.Status) (e : statusInRange s ≡ true) where
   back-status = rw status-row (ap (λ x. AFrame (Status x)) status-record)
 
 -- Messages: a number has at most five digits, and the pairs of a version, of a date and of a time are bytes.
-number-word : (letters n : ℕ) → isUpTo (behind letters) n ≡ true → Words (n ∷ [])
-number-word letters n e =
-    let f = fits-behind letters in
-    let most : 10 ^ widthOf (behind letters) ≤ 100000 = pow-le-pow-right (omega arith) (f .digits) in
-    (omega (arith, f .below n e), tt)
+number-word : (letters n width limit : ℕ) → behind letters ≡ ANumber width limit → leb n limit ≡ true → Words (n ∷ [])
+number-word letters n width limit is e =
+    let fits = number-fits letters width limit is in
+    let most : 10 ^ width ≤ 10 ^ 5 = pow-le-pow-right (omega arith) (fits .1) in
+    (omega (arith, fits .2, leb-true n limit e), tt)
 
 back-number : (letters n : ℕ) → isUpTo (behind letters) n ≡ true → frameGiven 8 letters (pos n ∷ []) ≡ AFrame (MessageOf (Number letters n))
 unfolding frameGiven responseGiven isRowOf
-back-number letters n e = by-behind (behind letters) e
+back-number letters n e = by-behind (behind letters) refl e
   where
-    by-behind : (b : Behind) → isUpTo b n ≡ true → behindGiven b letters (pos n ∷ []) ≡ AFrame (MessageOf (Number letters n))
-    by-behind (ANumber width limit) is =
-        let w = number-word letters n e in
+    by-behind : (b : Behind) → behind letters ≡ b → isUpTo b n ≡ true → behindGiven b letters (pos n ∷ []) ≡ AFrame (MessageOf (Number letters n))
+    by-behind (ANumber width limit) is up =
+        let w = number-word letters n width limit is up in
         rw (pass wordLimit (n ∷ []) w) (ap (λ x. AFrame (MessageOf (Number letters x))) (kept wordLimit (n ∷ []) w 0))
-    by-behind AVersion is = absurd (false≢true is)
-    by-behind AClock is = absurd (false≢true is)
-    by-behind Alone is = absurd (false≢true is)
-    by-behind Anything is = absurd (false≢true is)
+    by-behind AVersion is up = absurd (false≢true up)
+    by-behind AClock is up = absurd (false≢true up)
+    by-behind Alone is up = absurd (false≢true up)
+    by-behind Anything is up = absurd (false≢true up)
 
 back-version : (a b : ℕ) → messageInRange (Version a b) ≡ true → frameGiven 8 (word (ascii "RV")) (pos a ∷ pos b ∷ []) ≡ AFrame (MessageOf (Version a b))
 unfolding messageInRange frameGiven responseGiven isRowOf behind oneOf wordFrom

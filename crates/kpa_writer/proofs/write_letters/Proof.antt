@@ -1,17 +1,22 @@
 -- `kpa_writer::write_letters` meets its contract: the caret, the letters, which are the last of their number's four bytes,
 -- the text and the semicolon are four rows, laid one behind the other where they fit.
 -- Assumes nothing.
-use mathlib.Core.Path.{refl, sym, _∙_}
-use mathlib.Core.List.{append-assoc}
+use Prim.Native.Nat.{ℕ, _+_}
+use mathlib.Core.Path.{_≡_, refl, sym, _∙_}
+use mathlib.Core.List.{List, _++_, append-assoc}
 use native.Mathlib.Omega.{arith}
 use borrow.Author.Needs.{needs}
 use denote.Ref.{now}
-use Rattle.rules.specs.Messages.{wordLetters}
+use lib.ListN.{length, length-append}
+use Rattle.rules.specs.Messages.{wordLetters, messageFrame}
 use Rattle.pens.proofs.Rows.{row, _then_}
 use Rattle.pens.proofs.Writing.{has-no-room, writes}
-use Rattle.kpa_writer.proofs.Letters.{few-letters, part-letters, frame-length}
+use Rattle.kpa.proofs.LastLetters.{few-letters, part-letters}
 use Rattle.kpa_writer.proofs.write_letters.Statement.{statement}
 use Rattle.kpa_writer.proofs.write_letters.Tie as tie
+
+frame-length : (letters t : List ℕ) → length (messageFrame (letters ++ t)) ≡ 1 + length letters + length t + 1
+frame-length letters t = simp length-append (omega arith)
 
 word-length-requires : tie.Need-word-length-requires
 word-length-requires c κs = search needs

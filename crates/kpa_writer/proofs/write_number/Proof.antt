@@ -2,12 +2,14 @@
 -- rule has behind the letters.
 -- Assumes nothing.
 use mathlib.Core.Path.{sym, ap, _∙_}
+use native.Mathlib.Nat.{lt-of-le-of-lt}
 use borrow.Author.Tests.{le-leb, lt-leb}
 use borrow.Author.Needs.{needs}
 use Rattle.rules.specs.Messages.{isUpTo, messageInRange, messageBytes}
 use Rattle.rules.specs.declared.Behind.{Behind}
+use Rattle.frame_laws.proofs.Listed.{number-fits}
 use Rattle.pens.proofs.Writing.{refuses, allowed-too}
-use Rattle.kpa_writer.proofs.Numbers.{fits-behind, none-up-to, digits-laid}
+use Rattle.kpa_writer.proofs.Numbers.{none-up-to, digits-laid}
 use Rattle.kpa_writer.proofs.write_number.Statement.{statement}
 use Rattle.kpa_writer.proofs.write_number.Tie as tie
 
@@ -56,12 +58,11 @@ returns-3 c =
     let put = text .before .before .before in
     let told = put .before .before .before .before in
     let start = told .before .before .before .before in
-    let letters = start .args .letters in
     let is = sym (told .before .before .behind-letters .ensures) ∙ told .width .given .1 in
-    let most = le-leb _ _ (put .before .before .if1 .left) in
-    let fits = rw is at (fits-behind letters) in
-    let digits = digits-laid _ (start .args .n) _ (fits .digits) (fits .below (start .args .n) most) (put .put-number .ensures) in
-    allowed-too (rw is most) (rw is (rw (text .text .ensures .content, digits) at (w .write-letters .ensures)))
+    let most = put .before .before .if1 .left in
+    let fits = number-fits (start .args .letters) _ _ is in
+    let digits = digits-laid _ (start .args .n) _ (fits .1) (lt-of-le-of-lt most (fits .2)) (put .put-number .ensures) in
+    allowed-too (rw is (le-leb _ _ most)) (rw is (rw (text .text .ensures .content, digits) at (w .write-letters .ensures)))
 
 pub write-number-spec : {M : Type 1} → statement M
 write-number-spec =

@@ -1,15 +1,15 @@
--- The letters that a number holds are the last of its four bytes: what is taken off in front is taken off the front.
+-- The letters that a number holds are the last of its four bytes: the zeros are taken off the front. By induction on the bytes.
 -- Assumes nothing.
-use Prim.Native.Nat.{ℕ, suc, _+_, _-_, _≤_}
+use Prim.Native.Nat.{ℕ, suc, _-_, _≤_}
 use mathlib.Core.Path.{_≡_, refl}
 use mathlib.Core.Bool.{Bool, true, false, cond}
-use mathlib.Core.List.{List, [], _∷_, _++_}
+use mathlib.Core.List.{List, [], _∷_}
 use native.Mathlib.Omega.{arith}
 use lib.Dec.{eqb}
-use lib.ListN.{length, take, drop, length-append}
+use lib.ListN.{length, take, drop}
 use lib.Seq.{take-all}
-use Rattle.rules.specs.Messages.{withoutZeros, wordLetters, messageFrame}
+use Rattle.rules.specs.Messages.{withoutZeros, wordLetters}
 use Rattle.kpa.specs.Words.{wordBytes}
 
 -- `rest` is what a list ends with
 record Ends (rest bs : List ℕ) : Type 0 where
@@ -41,6 +41,3 @@ last-letters n = without-zeros (wordBytes n) .last
 pub part-letters : (n k : ℕ) (bytes : List ℕ) → k ≡ length (wordLetters n) → bytes ≡ wordBytes n → take (4 - (4 - k)) (drop (4 - k) bytes) ≡ wordLetters n
 part-letters n k bytes e f =
     rw (e, f, last-letters n) (take-all (4 - (4 - length (wordLetters n))) (wordLetters n) (omega (arith, few-letters n)))
-
-pub frame-length : (letters t : List ℕ) → length (messageFrame (letters ++ t)) ≡ 1 + length letters + length t + 1
-frame-length letters t = simp length-append (omega arith)
