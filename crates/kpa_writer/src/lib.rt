@@ -15,17 +15,14 @@ use rules::Written;
 ghost use mathlib.Core.Path.{_≡_};
 ghost use mathlib.Core.Bool.{true};
 ghost use mathlib.Core.List.{_++_};
-ghost use Prim.Native.Char.{code};
-ghost use Prim.Native.Nat.{_+_, _/_, _%_, _≤_};
-ghost use lib.ListN.{length};
+ghost use lib.ListN.{getD};
 ghost use Rattle.rules.specs.Answers.{Writes, noRecord};
+ghost use Rattle.rules.specs.Numbers.{withZeros};
 ghost use Rattle.rules.specs.Messages.{wordLetters, messageFrame, isAsked, messageInRange, messageBytes};
-ghost use Rattle.rules.specs.declared.Behind.{Behind as BehindType};
-ghost use Rattle.rules.specs.declared.Message.the-variants.{Question, Number, Version, Clock as ClockOf, Tune};
+ghost use Rattle.rules.specs.declared.Message.the-variants.{Question, Number, Version, Clock as ClockOf};
 
 // A caret, letters, a text behind them, and a semicolon.
 fn write_letters(letters: u32, t: &[u8], out: &mut [u8]) -> Written
-    requires { ⌜ length (now t) ≤ 17 ⌝ }
     ensures { λ w. ⌜ Writes true noRecord (messageFrame (wordLetters letters ++ now (t .entry))) (now (out .entry)) w (now (out .exit)) ⌝ }
 {
     let n = kpa::word_length(letters);
@@ -80,14 +77,13 @@ fn write_number(letters: u32, n: u32, out: &mut [u8]) -> Written
 
 // The two digits of a number below 100.
 fn tens(n: u8) -> u8
-    requires { ⌜ n ≤ 99 ⌝ }
-    ensures { λ r. ⌜ r ≡ code "0" + n / 10 ⌝ }
+    ensures { λ r. ⌜ r ≡ getD (withZeros 2 n) 0 0 ⌝ }
 {
     b'0' + n / 10
 }
 
 fn ones(n: u8) -> u8
-    ensures { λ r. ⌜ r ≡ code "0" + n % 10 ⌝ }
+    ensures { λ r. ⌜ r ≡ getD (withZeros 2 n) 1 0 ⌝ }
 {
     b'0' + n % 10
 }

@@ -13,34 +13,36 @@ use lib.Seq.{take-append-seam}
 use Rattle.rules.specs.Bytes.{ascii, part}
 use Rattle.rules.specs.Answers.{Writes, kindOf, allowed, notAllowed, bytesOf}
 use Rattle.rules.specs.declared.Frame.{Frame}
-use Rattle.rules.specs.declared.Frame.the-variants.{Ack, Status, Command, Apa02, Apa03, Apa05, Other}
+use Rattle.rules.specs.declared.Frame.the-variants.{Ack, Status, Command, Apa02, Apa03, Apa05, Other, Message}
 use Rattle.rules.specs.declared.Written.{Written}
 use Rattle.rules.specs.declared.Written.the-variants.{Length, Refused}
 use Rattle.frame_laws.proofs.Bytes.{answer}
+use Rattle.frame_laws.proofs.Messages.{message-length}
 use Rattle.spe_writer.proofs.Report.{report-at-most}
 use Rattle.alpha_writer.proofs.Sentence.{length02, length03, length05}
 use Rattle.lines.specs.Lines.{hexTexts}
 use Rattle.replays.specs.Texts.{writtenTexts}
 
-pub longest : (f : Frame) → length (bytesOf f) ≤ 76
-unfolding bytesOf
-longest (Ack c) = omega arith
-longest (Status s) = report-at-most s
-longest (Command c) = omega arith
-longest (Apa02 r) = omega (arith, length02 r)
-longest (Apa03 r) = omega (arith, length03 r)
-longest (Apa05 r) = omega (arith, length05 r)
-longest (Other n) = omega arith
+pub longest : (f : Frame) → allowed f ≡ true → length (bytesOf f) ≤ 76
+unfolding allowed bytesOf
+longest (Ack c) e = omega arith
+longest (Status s) e = report-at-most s
+longest (Command c) e = omega arith
+longest (Apa02 r) e = omega (arith, length02 r)
+longest (Apa03 r) e = omega (arith, length03 r)
+longest (Apa05 r) e = omega (arith, length05 r)
+longest (Other n) e = omega arith
+longest (Message m) e = omega (arith, message-length m e)
 
-module _ (f : Frame) {out after : List ℕ} {given : Written} (w : Writes (allowed f) (notAllowed (kindOf f)) (bytesOf f) out given after) (room : length (bytesOf f) ≤ length out) where
+module _ (f : Frame) {out after : List ℕ} {given : Written} (w : Writes (allowed f) (notAllowed (kindOf f)) (bytesOf f) out given after) (room : allowed f ≡ true → length (bytesOf f) ≤ length out) where
   pub bytes-shown : (n : ℕ) → given ≡ Length n → hexTexts (part 0 n after) ≡ writtenTexts f
   unfolding writtenTexts
   bytes-shown n e = ⊎-elim yes no (answer (allowed f))
     where
       yes : allowed f ≡ true → hexTexts (part 0 n after) ≡ cond (allowed f) (hexTexts (bytesOf f)) (ascii "-" ∷ [])
       yes a =
-          let size : n ≡ length (bytesOf f) = cc (rw (a, le-leb _ _ room) at (w .answers)) in
-          rw (a, size, rw (a, le-leb _ _ room) at (w .content), take-append-seam)
+          let size : n ≡ length (bytesOf f) = cc (rw (a, le-leb _ _ (room a)) at (w .answers)) in
+          rw (a, size, rw (a, le-leb _ _ (room a)) at (w .content), take-append-seam)
 
       no : allowed f ≡ false → hexTexts (part 0 n after) ≡ cond (allowed f) (hexTexts (bytesOf f)) (ascii "-" ∷ [])
       no a =
@@ -53,5 +55,5 @@ module _ (f : Frame) {out after : List ℕ} {given : Written} (w : Writes (allow
     where
       yes : allowed f ≡ true → ascii "-" ∷ [] ≡ cond (allowed f) (hexTexts (bytesOf f)) (ascii "-" ∷ [])
       yes a =
-          let z : _≡_ {A = ℕ} 0 1 = cc (rw (a, le-leb _ _ room) at (w .answers)) in
+          let z : _≡_ {A = ℕ} 0 1 = cc (rw (a, le-leb _ _ (room a)) at (w .answers)) in
           absurd (omega arith)

@@ -10,7 +10,7 @@ use lib.ListN.{length, drop, getD, drop-of-length-le}
 use lib.Seq.{drop-cons}
 use Rattle.rules.specs.Answers.{kindOf, values}
 use Rattle.rules.specs.declared.Kind.{Kind}
-use Rattle.rules.specs.declared.Kind.the-variants.{OfAck, OfStatus, OfCommand, OfSentence}
+use Rattle.rules.specs.declared.Kind.the-variants.{OfAck, OfStatus, OfCommand, OfSentence, OfQuestion, OfResponse, OfLetters}
 use Rattle.rules.specs.declared.Frame.{Frame}
 use Rattle.records.specs.Told.{valuePlaces}
 use Rattle.records.proofs.Places.{few-values}
@@ -49,6 +49,9 @@ as-many (OfAck c) = refl
 as-many OfStatus = refl
 as-many (OfCommand c) = refl
 as-many (OfSentence n) = refl
+as-many (OfQuestion letters) = refl
+as-many (OfResponse letters) = refl
+as-many (OfLetters w) = refl
 
 pub a-form-each : (f : Frame) → length (values f) ≤ length (formsOf (kindOf f))
 a-form-each f = rw (as-many (kindOf f)) (few-values f)

@@ -10,9 +10,12 @@ use lib.Dec.{eqb, leb, ltb}
 use lib.IntN.{ℤ}
 use Rattle.rules.specs.Bytes.{every}
 use Rattle.rules.specs.Codes.{codes, isCode, isAckCode}
-use Rattle.rules.specs.Answers.{Writes, saidToWrite, noCode, kindOf, allowed, notAllowed, bytesOf}
+use Rattle.rules.specs.Answers.{Writes, saidToWrite, noCode, noRecord, kindOf, allowed, notAllowed, bytesOf}
 use Rattle.rules.specs.declared.Frame.{Frame}
-use Rattle.rules.specs.declared.Frame.the-variants.{Ack, Command}
+use Rattle.rules.specs.declared.Frame.the-variants.{Ack, Command, Message as MessageOf}
+use Rattle.rules.specs.Messages.{messageInRange, messageBytes}
+use Rattle.rules.specs.declared.Message.{Message}
+use Rattle.rules.specs.declared.Message.the-variants.{Question, Number, Version, Clock, Tune, OtherLetters}
 use Rattle.rules.specs.declared.Written.{Written}
 use Rattle.frame_laws.proofs.Bytes.{both, either, answer, one-of-these}
 use Rattle.rows.specs.Rows.{refusalOf}
@@ -24,6 +27,20 @@ use Rattle.row_writer.proofs.Frames.{as-ack, as-command}
 pub same-frame : {f g : Frame} {out after : List ℕ} {a : Written} → f ≡ g
     → Writes (allowed g) (notAllowed (kindOf g)) (bytesOf g) out a after → Writes (allowed f) (notAllowed (kindOf f)) (bytesOf f) out a after
 same-frame e w = rw e w
+
+-- whatever a message is, one that is not allowed is refused as a record is
+message-refusal : (m : Message) → notAllowed (kindOf (MessageOf m)) ≡ noRecord
+message-refusal (Question letters) = refl
+message-refusal (Number letters n) = refl
+message-refusal (Version a b) = refl
+message-refusal (Clock c) = refl
+message-refusal Tune = refl
+message-refusal (OtherLetters w) = refl
+
+pub written-message : (m : Message) {out after : List ℕ} {a : Written} → Writes (messageInRange m) noRecord (messageBytes m) out a after
+    → Writes (allowed (MessageOf m)) (notAllowed (kindOf (MessageOf m))) (bytesOf (MessageOf m)) out a after
+unfolding allowed bytesOf
+written-message m w = rw (message-refusal m) w
 
 -- and the same of what is given
 pub same-given : {f g : Given} {out after : List ℕ} {a : Written} → f ≡ g

@@ -1,9 +1,10 @@
 -- A frame that may be written is given by its own kind, code and values: what was read can be written again from its
 -- numbers. Each value fits its field by the rules of the record. Assumes nothing.
-use Prim.Native.Nat.{ℕ, zero, suc, _≤_}
-use mathlib.Core.Path.{_≡_, refl, ap}
+use Prim.Native.Nat.{ℕ, zero, suc, _%_, _^_, _≤_}
+use mathlib.Core.Path.{_≡_, refl, ap, ap₂}
 use mathlib.Core.Bool.{Bool, true, false, cond, and-eq-true-iff, false≢true}
 use mathlib.Core.List.{List, [], _∷_, map}
+use native.Mathlib.Nat.{pow-le-pow-right}
 use native.Mathlib.Omega.{arith}
 use borrow.Author.Tests.{leb-true, ltb-true, le-leb}
 use lib.Dec.{eqb, leb}
@@ -12,18 +13,25 @@ use lib.ListN.{getD}
 use Rattle.rules.specs.Bytes.{ascii, oneOf, every}
 use Rattle.rules.specs.Status.{by, fieldsInRange, statusInRange, warnings, alarms}
 use Rattle.rules.specs.Sentences.{fit, numbers02, inRange02, numbers03, inRange03, inRange05}
-use Rattle.rules.specs.Answers.{numbers05, kindOf, values, allowed}
+use Rattle.rules.specs.Answers.{numbers05, messageKind, kindOf, values, allowed}
+use Rattle.rules.specs.Messages.{wordFrom, word, behind, isUpTo, daysIn, clockInRange, clockNumbers, messageInRange, messageNumbers}
+use Rattle.rules.specs.declared.Clock as ClockType
+use Rattle.rules.specs.declared.Behind.{Behind}
+use Rattle.rules.specs.declared.Behind.the-variants.{ANumber, AVersion, AClock, Alone, Anything}
+use Rattle.rules.specs.declared.Message.{Message}
+use Rattle.rules.specs.declared.Message.the-variants.{Question, Number, Version, Clock, Tune, OtherLetters}
 use Rattle.rules.specs.declared.Status as StatusType
 use Rattle.rules.specs.declared.Sentence02.{Sentence02}
 use Rattle.rules.specs.declared.Sentence03.{Sentence03}
 use Rattle.rules.specs.declared.Sentence05.{Sentence05}
 use Rattle.rules.specs.declared.Frame.{Frame}
-use Rattle.rules.specs.declared.Frame.the-variants.{Ack, Status, Command, Apa02, Apa03, Apa05, Other}
+use Rattle.rules.specs.declared.Frame.the-variants.{Ack, Status, Command, Apa02, Apa03, Apa05, Other, Message as MessageOf}
 use Rattle.frame_laws.proofs.Bytes.{tests, both-pass, one-of-these}
 use Rattle.frame_laws.proofs.Report.{fits}
+use Rattle.frame_laws.proofs.Listed.{number-fits}
 use Rattle.rows.specs.Rows.{kindRow, codeOf}
 use Rattle.row_writer.specs.declared.given.Given.the-variants.{AFrame}
-use Rattle.row_writer.specs.Given.{atMost, aTemperature, numberUpTo, temperatureOf, valueAt, isStatusRow, isRow02, isRow03, isRow05, statusFrom, from02, from03, from05, sentenceGiven, frameGiven}
+use Rattle.row_writer.specs.Given.{atMost, aTemperature, numberUpTo, temperatureOf, valueAt, byteLimit, wordLimit, isStatusRow, isRowOf, isRow03, statusFrom, from02, from03, from05, clockFrom, sentenceGiven, behindGiven, responseGiven, frameGiven}
 
 -- Numbers up to a limit, as values: they pass the test, and each is kept.
 abbrev Each : ℕ → List ℕ → Type 0
@@ -53,8 +61,8 @@ module _ (r : Sentence02) (e : inRange02 r ≡ true) where
   unfolding inRange02 fit numbers02
   words02 = let h = simp and-eq-true-iff at e in omega (arith, ltb-true)
 
-  row02 : isRow02 (values (Apa02 r)) ≡ true
-  unfolding isRow02 numbers02
+  row02 : isRowOf 13 wordLimit (values (Apa02 r)) ≡ true
+  unfolding isRowOf numbers02
   row02 = pass 0xFFFFFFFF (numbers02 r) words02
 
   record02 : from02 (values (Apa02 r)) ≡ r
@@ -126,8 +134,8 @@ module _ (r : Sentence05) (e : inRange05 r ≡ true) where
   unfolding inRange05
   bytes05 = let h = simp and-eq-true-iff at e in omega (arith, leb-true)
 
-  row05 : isRow05 (values (Apa05 r)) ≡ true
-  unfolding isRow05
+  row05 : isRowOf 11 byteLimit (values (Apa05 r)) ≡ true
+  unfolding isRowOf
   row05 = pass 255 (numbers05 r) bytes05
 
   record05 : from05 (values (Apa05 r)) ≡ r
@@ -234,6 +242,75 @@ module _ (s : StatusType.Status) (e : statusInRange s ≡ true) where
   unfolding frameGiven
   back-status = rw status-row (ap (λ x. AFrame (Status x)) status-record)
 
+-- Messages: a number has at most five digits, and the pairs of a version, of a date and of a time are bytes.
+number-word : (letters n width limit : ℕ) → behind letters ≡ ANumber width limit → leb n limit ≡ true → Words (n ∷ [])
+number-word letters n width limit is e =
+    let fits = number-fits letters width limit is in
+    let most : 10 ^ width ≤ 10 ^ 5 = pow-le-pow-right (omega arith) (fits .1) in
+    (omega (arith, fits .2, leb-true n limit e), tt)
+
+back-number : (letters n : ℕ) → isUpTo (behind letters) n ≡ true → frameGiven 8 letters (pos n ∷ []) ≡ AFrame (MessageOf (Number letters n))
+unfolding frameGiven responseGiven isRowOf
+back-number letters n e = by-behind (behind letters) refl e
+  where
+    by-behind : (b : Behind) → behind letters ≡ b → isUpTo b n ≡ true → behindGiven b letters (pos n ∷ []) ≡ AFrame (MessageOf (Number letters n))
+    by-behind (ANumber width limit) is up =
+        let w = number-word letters n width limit is up in
+        rw (pass wordLimit (n ∷ []) w) (ap (λ x. AFrame (MessageOf (Number letters x))) (kept wordLimit (n ∷ []) w 0))
+    by-behind AVersion is up = absurd (false≢true up)
+    by-behind AClock is up = absurd (false≢true up)
+    by-behind Alone is up = absurd (false≢true up)
+    by-behind Anything is up = absurd (false≢true up)
+
+back-version : (a b : ℕ) → messageInRange (Version a b) ≡ true → frameGiven 8 (word (ascii "RV")) (pos a ∷ pos b ∷ []) ≡ AFrame (MessageOf (Version a b))
+unfolding messageInRange frameGiven responseGiven isRowOf behind oneOf wordFrom
+back-version a b e =
+    let h = simp and-eq-true-iff at e in
+    let pairs : AllBytes (a ∷ b ∷ []) = omega (arith, leb-true) in
+    let k = kept byteLimit (a ∷ b ∷ []) pairs in
+    rw (pass byteLimit (a ∷ b ∷ []) pairs) (ap₂ (λ x y. AFrame (MessageOf (Version x y))) (k 0) (k 1))
+
+either-most : (b : Bool) {x y k : ℕ} → x ≤ k → y ≤ k → cond b x y ≤ k
+either-most true p q = p
+either-most false p q = q
+
+days-most : (year month : ℕ) → daysIn year month ≤ 31
+unfolding daysIn
+days-most year month =
+    either-most (eqb month 2) (either-most (eqb (year % 4) 0) (omega arith) (omega arith))
+    (either-most (oneOf (4 ∷ 6 ∷ 9 ∷ 11 ∷ []) month) (omega arith) (omega arith))
+
+module _ (t : ClockType.Clock) (e : clockInRange t ≡ true) where
+  clock-bytes : AllBytes (clockNumbers t)
+  unfolding clockInRange
+  clock-bytes = let h = simp and-eq-true-iff at e in omega (arith, leb-true, days-most (t .year) (t .month))
+
+  clock-record : clockFrom (map pos (clockNumbers t)) ≡ t
+  unfolding clockFrom
+  clock-record =
+      let k = kept byteLimit (clockNumbers t) clock-bytes in
+      λ i. record {
+        year = k 0 i;
+        month = k 1 i;
+        day = k 2 i;
+        hour = k 3 i;
+        minute = k 4 i;
+        second = k 5 i;
+      }
+
+  back-clock : frameGiven 8 (word (ascii "CC")) (map pos (clockNumbers t)) ≡ AFrame (MessageOf (Clock t))
+  unfolding frameGiven responseGiven isRowOf behind oneOf wordFrom
+  back-clock = rw (pass byteLimit (clockNumbers t) clock-bytes) (ap (λ x. AFrame (MessageOf (Clock x))) clock-record)
+
+back-message : (m : Message) → messageInRange m ≡ true → frameGiven (kindRow (messageKind m)) (codeOf (messageKind m)) (map pos (messageNumbers m)) ≡ AFrame (MessageOf m)
+unfolding messageInRange frameGiven responseGiven behind oneOf wordFrom
+back-message (Question letters) e = refl
+back-message (Number letters n) e = back-number letters n e
+back-message (Version a b) e = back-version a b e
+back-message (Clock t) e = back-clock t e
+back-message Tune e = refl
+back-message (OtherLetters w) e = absurd (false≢true e)
+
 pub given-back : (f : Frame) → allowed f ≡ true → frameGiven (kindRow (kindOf f)) (codeOf (kindOf f)) (values f) ≡ AFrame f
 unfolding allowed frameGiven
 given-back (Ack c) e = refl
@@ -243,3 +320,4 @@ given-back (Apa02 r) e = back02 r e
 given-back (Apa03 r) e = back03 r e
 given-back (Apa05 r) e = back05 r e
 given-back (Other n) e = absurd (false≢true e)
+given-back (MessageOf m) e = back-message m e

@@ -32,11 +32,17 @@ atMost limit (pos n) = leb n limit
 atMost limit (negsuc n) = false
 
 -- Which values a field can hold: a byte, 32 bits, and 32 bits with a sign, where `negsuc n` is one below -n.
+abbrev pub byteLimit : ℕ
+byteLimit = 255
+
+abbrev pub wordLimit : ℕ
+wordLimit = 0xFFFFFFFF
+
 abbrev pub aByte : ℤ → Bool
-aByte v = atMost 255 v
+aByte v = atMost byteLimit v
 
 abbrev pub aWord : ℤ → Bool
-aWord v = atMost 0xFFFFFFFF v
+aWord v = atMost wordLimit v
 
 abbrev pub aTemperature : ℤ → Bool
 aTemperature (pos n) = leb n 0x7FFFFFFF
@@ -47,10 +53,10 @@ abbrev pub numberUpTo : ℕ → ℤ → ℕ
 numberUpTo limit v = cond (atMost limit v) (natAbs v) 0
 
 abbrev pub byteOf : ℤ → ℕ
-byteOf v = numberUpTo 255 v
+byteOf v = numberUpTo byteLimit v
 
 abbrev pub wordOf : ℤ → ℕ
-wordOf v = numberUpTo 0xFFFFFFFF v
+wordOf v = numberUpTo wordLimit v
 
 abbrev pub temperatureOf : ℤ → ℤ
 temperatureOf v = cond (aTemperature v) v (pos 0)
@@ -63,23 +69,11 @@ valueAt vs i = getD vs i (pos 0)
 unfoldable pub isStatusRow : List ℤ → Bool
 isStatusRow vs = leb statusValues (length vs) && every aByte (take 10 vs) && every aWord (take 8 (drop 10 vs)) && every aByte (take 3 (drop 18 vs))
 
-unfoldable pub isRow02 : List ℤ → Bool
-isRow02 vs = leb 13 (length vs) && every aWord (take 13 vs)
+unfoldable pub isRowOf : ℕ → ℕ → List ℤ → Bool
+isRowOf count limit vs = leb count (length vs) && every (atMost limit) (take count vs)
 
 unfoldable pub isRow03 : List ℤ → Bool
 isRow03 vs = leb 9 (length vs) && every aWord (take 8 vs) && aTemperature (valueAt vs 8)
-
-unfoldable pub isRow05 : List ℤ → Bool
-isRow05 vs = leb 11 (length vs) && every aByte (take 11 vs)
-
-unfoldable pub isNumberRow : List ℤ → Bool
-isNumberRow vs = leb 1 (length vs) && every aWord (take 1 vs)
-
-unfoldable pub isVersionRow : List ℤ → Bool
-isVersionRow vs = leb 2 (length vs) && every aByte (take 2 vs)
-
-unfoldable pub isClockRow : List ℤ → Bool
-isClockRow vs = leb 6 (length vs) && every aByte (take 6 vs)
 
 -- The records, with their fields in the order in which a reader gives their values.
 unfoldable pub statusFrom : List ℤ → StatusType.Status
@@ -165,18 +159,18 @@ clockFrom vs = record {
 -- What is given: a frame, or nothing, where no record can hold the values or there is no such kind.
 unfoldable pub sentenceGiven : ℕ → List ℤ → Given
 sentenceGiven number vs =
-    cond (eqb number 2) (cond (isRow02 vs) (AFrame (Apa02 (from02 vs))) Nothing)
+    cond (eqb number 2) (cond (isRowOf 13 wordLimit vs) (AFrame (Apa02 (from02 vs))) Nothing)
     (cond (eqb number 3) (cond (isRow03 vs) (AFrame (Apa03 (from03 vs))) Nothing)
-    (cond (eqb number 5) (cond (isRow05 vs) (AFrame (Apa05 (from05 vs))) Nothing)
+    (cond (eqb number 5) (cond (isRowOf 11 byteLimit vs) (AFrame (Apa05 (from05 vs))) Nothing)
     Nothing))
 
 abbrev pub givenIf : Bool → Message → Given
 givenIf fits m = cond fits (AFrame (MessageOf m)) Nothing
 
 abbrev pub behindGiven : Behind → ℕ → List ℤ → Given
-behindGiven (ANumber width limit) letters vs = givenIf (isNumberRow vs) (Number letters (wordOf (valueAt vs 0)))
-behindGiven AVersion letters vs = givenIf (isVersionRow vs) (Version (byteOf (valueAt vs 0)) (byteOf (valueAt vs 1)))
-behindGiven AClock letters vs = givenIf (isClockRow vs) (Clock (clockFrom vs))
+behindGiven (ANumber width limit) letters vs = givenIf (isRowOf 1 wordLimit vs) (Number letters (wordOf (valueAt vs 0)))
+behindGiven AVersion letters vs = givenIf (isRowOf 2 byteLimit vs) (Version (byteOf (valueAt vs 0)) (byteOf (valueAt vs 1)))
+behindGiven AClock letters vs = givenIf (isRowOf 6 byteLimit vs) (Clock (clockFrom vs))
 behindGiven Alone letters vs = AFrame (MessageOf Tune)
 behindGiven Anything letters vs = Nothing
 

@@ -15,7 +15,7 @@ use rules::Sentence03;
 use rules::Sentence05;
 use rules::Status;
 ghost use mathlib.Core.Path.{_≡_};
-ghost use Rattle.row_writer.specs.Given.{isStatusRow, isRow02, isRow03, isRow05, isNumberRow, isVersionRow, isClockRow, statusFrom, from02, from03, from05, clockFrom};
+ghost use Rattle.row_writer.specs.Given.{isStatusRow, isRowOf, isRow03, statusFrom, from02, from03, from05, clockFrom};
 
 // What a caller gives: a frame, or nothing, where no record can hold the values or there is no such kind.
 pub enum Given {
@@ -33,13 +33,14 @@ pub(crate) fn is_status_row(values: &[i64]) -> bool
     fit(&values[..10], BYTE) & fit(&values[10..18], WORD) & fit(&values[18..STATUS_VALUES], BYTE)
 }
 
-pub(crate) fn is_row02(values: &[i64]) -> bool
-    ensures { λ r. ⌜ r ≡ isRow02 (now (values .entry)) ⌝ }
+// The same for a record of so many numbers, each up to the same limit.
+pub(crate) fn is_row(values: &[i64], count: usize, limit: u32) -> bool
+    ensures { λ r. ⌜ r ≡ isRowOf count limit (now (values .entry)) ⌝ }
 {
-    if values.len() < 13 {
+    if values.len() < count {
         return false;
     }
-    fit(&values[..13], WORD)
+    fit(&values[..count], limit)
 }
 
 pub(crate) fn is_row03(values: &[i64]) -> bool
@@ -49,42 +50,6 @@ pub(crate) fn is_row03(values: &[i64]) -> bool
         return false;
     }
     fit(&values[..8], WORD) & fits_signed(value_at(values, 8))
-}
-
-pub(crate) fn is_row05(values: &[i64]) -> bool
-    ensures { λ r. ⌜ r ≡ isRow05 (now (values .entry)) ⌝ }
-{
-    if values.len() < 11 {
-        return false;
-    }
-    fit(&values[..11], BYTE)
-}
-
-pub(crate) fn is_number_row(values: &[i64]) -> bool
-    ensures { λ r. ⌜ r ≡ isNumberRow (now (values .entry)) ⌝ }
-{
-    if values.len() < 1 {
-        return false;
-    }
-    fit(&values[..1], WORD)
-}
-
-pub(crate) fn is_version_row(values: &[i64]) -> bool
-    ensures { λ r. ⌜ r ≡ isVersionRow (now (values .entry)) ⌝ }
-{
-    if values.len() < 2 {
-        return false;
-    }
-    fit(&values[..2], BYTE)
-}
-
-pub(crate) fn is_clock_row(values: &[i64]) -> bool
-    ensures { λ r. ⌜ r ≡ isClockRow (now (values .entry)) ⌝ }
-{
-    if values.len() < 6 {
-        return false;
-    }
-    fit(&values[..6], BYTE)
 }
 
 pub(crate) fn clock_from(values: &[i64]) -> Clock

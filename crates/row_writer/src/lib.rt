@@ -3,6 +3,8 @@
 mod fits;
 mod given;
 
+use crate::fits::BYTE;
+use crate::fits::WORD;
 use crate::fits::byte_at;
 use crate::fits::word_at;
 use crate::given::Given;
@@ -10,13 +12,9 @@ use crate::given::clock_from;
 use crate::given::from02;
 use crate::given::from03;
 use crate::given::from05;
-use crate::given::is_clock_row;
-use crate::given::is_number_row;
-use crate::given::is_row02;
+use crate::given::is_row;
 use crate::given::is_row03;
-use crate::given::is_row05;
 use crate::given::is_status_row;
-use crate::given::is_version_row;
 use crate::given::status_from;
 use records::behind_letters;
 use rows::ACK_ROW;
@@ -63,7 +61,7 @@ fn sentence_given(number: u32, values: &[i64]) -> Given
     ensures { λ r. ⌜ r ≡ sentenceGiven number (now (values .entry)) ⌝ }
 {
     if number == 2 {
-        if is_row02(values) {
+        if is_row(values, 13, WORD) {
             return Given::AFrame(Frame::Apa02(from02(values)));
         }
         return Given::Nothing;
@@ -75,7 +73,7 @@ fn sentence_given(number: u32, values: &[i64]) -> Given
         return Given::Nothing;
     }
     if number == 5 {
-        if is_row05(values) {
+        if is_row(values, 11, BYTE) {
             return Given::AFrame(Frame::Apa05(from05(values)));
         }
     }
@@ -88,20 +86,20 @@ fn response_given(letters: u32, values: &[i64]) -> Given
 {
     match behind_letters(letters) {
         Behind::ANumber(_, _) => {
-            if is_number_row(values) {
+            if is_row(values, 1, WORD) {
                 return Given::AFrame(Frame::Message(Message::Number(letters, word_at(values, 0))));
             }
             Given::Nothing
         }
         Behind::AVersion => {
-            if is_version_row(values) {
+            if is_row(values, 2, BYTE) {
                 let version = Message::Version(byte_at(values, 0), byte_at(values, 1));
                 return Given::AFrame(Frame::Message(version));
             }
             Given::Nothing
         }
         Behind::AClock => {
-            if is_clock_row(values) {
+            if is_row(values, 6, BYTE) {
                 return Given::AFrame(Frame::Message(Message::Clock(clock_from(values))));
             }
             Given::Nothing

@@ -2,9 +2,9 @@
 -- Assumes nothing.
 use mathlib.Core.Path.{sym, ap, _∙_}
 use native.Mathlib.Omega.{arith}
-use borrow.Author.Needs.{needs}
 use Rattle.rules.specs.declared.Frame.the-variants.{Status}
-use Rattle.row_writer.proofs.Frames.{chosen, dropped, as-ack, as-status, as-command, as-sentence, no-kind, ack-byte, command-byte}
+use Rattle.row_writer.proofs.Frames.{chosen, dropped, as-ack, as-status, as-command, as-sentence, as-question, as-response, no-kind, ack-byte, command-byte}
+use borrow.Author.Needs.{needs}
 use Rattle.row_writer.proofs.frame_given.Statement.{statement}
 use Rattle.row_writer.proofs.frame_given.Tie as tie
 
@@ -41,7 +41,18 @@ returns-5 : tie.Need-returns-5
 returns-5 c = c .sentence-given .ensures ∙ as-sentence _ _ _ (c .before .if5 .taken)
 
 returns-6 : tie.Need-returns-6
-returns-6 c = no-kind _ _ _ (c .before .before .before .if1 .left) (c .before .before .if2 .left) (c .before .if4 .left) (c .if5 .left)
+returns-6 c = as-question _ _ _ (c .if6 .taken)
+
+response-given-requires : tie.Need-response-given-requires
+response-given-requires c κs = search needs
+
+returns-7 : tie.Need-returns-7
+returns-7 c = c .response-given .ensures ∙ as-response _ _ _ (c .before .if7 .taken)
+
+returns-8 : tie.Need-returns-8
+returns-8 c =
+    let no4 = c .before .before in
+    no-kind _ _ _ (no4 .before .before .before .if1 .left) (no4 .before .before .if2 .left) (no4 .before .if4 .left) (no4 .if5 .left) (c .before .if6 .left) (c .if7 .left)
 
 pub frame-given-spec : {M : Type 1} → statement M
 frame-given-spec =
@@ -57,4 +68,7 @@ frame-given-spec =
     returns-4
     sentence-given-requires
     returns-5
-    returns-6)
+    returns-6
+    response-given-requires
+    returns-7
+    returns-8)

@@ -1,10 +1,10 @@
 -- `row_writer::write_frame` meets its contract: each kind of frame goes to its writer.
 -- Assumes nothing.
 use mathlib.Core.Path.{refl}
-use borrow.Author.Needs.{needs}
 use Rattle.rules.specs.Answers.{allowed, bytesOf}
 use Rattle.pens.proofs.Writing.{refuses}
-use Rattle.row_writer.proofs.Answers.{same-frame}
+use Rattle.row_writer.proofs.Answers.{same-frame, written-message}
+use borrow.Author.Needs.{needs}
 use Rattle.row_writer.proofs.write_frame.Statement.{statement}
 use Rattle.row_writer.proofs.write_frame.Tie as tie
 
@@ -46,6 +46,12 @@ write-05-requires c κs = search needs
 
 enum-told : tie.Need-enum-told
 enum-told c = search needs
+
+enum-known-f-7 : tie.Need-enum-known-f-7
+enum-known-f-7 c = search needs
+
+write-message-requires : tie.Need-write-message-requires
+write-message-requires c κs = search needs
 
 same-length : tie.Need-same-length
 same-length c = search needs
@@ -93,6 +99,12 @@ returns-7 : tie.Need-returns-7
 unfolding allowed bytesOf
 returns-7 c = same-frame (c .enum-told .given .1) (refuses refl)
 
+same-length-7 : tie.Need-same-length-7
+same-length-7 c = search needs
+
+returns-8 : tie.Need-returns-8
+returns-8 c = same-frame (c .before .before .before .before .before .f7 .given .1) (written-message _ (c .before .before .write-message .ensures))
+
 pub write-frame-spec : {M : Type 1} → statement M
 write-frame-spec =
     tie.close
@@ -110,6 +122,8 @@ write-frame-spec =
     enum-known-f-6
     write-05-requires
     enum-told
+    enum-known-f-7
+    write-message-requires
     same-length
     returns
     same-length-2
@@ -122,4 +136,6 @@ write-frame-spec =
     returns-5
     same-length-6
     returns-6
-    returns-7)
+    returns-7
+    same-length-7
+    returns-8)

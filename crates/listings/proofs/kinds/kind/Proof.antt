@@ -1,7 +1,8 @@
--- `listings::kinds::kind` meets its contract: each kind of frame has its word, and behind it the code or the number.
--- Assumes nothing.
-use Rattle.listings.specs.Kinds.{kindTexts}
+-- `listings::kinds::kind` meets its contract: each kind of frame has its word, and behind it the code or the number; a message
+-- has its letters. Assumes nothing.
+use mathlib.Core.Logic.{⊎-elim}
 use borrow.Author.Needs.{needs}
+use Rattle.listings.specs.Kinds.{kindTexts}
 use Rattle.listings.proofs.kinds.kind.Statement.{statement}
 use Rattle.listings.proofs.kinds.kind.Tie as tie
 
@@ -37,6 +38,27 @@ enum-known-of-3 c = search needs
 
 sentence-requires : tie.Need-sentence-requires
 sentence-requires c κs = search needs
+
+enum-known-of-4 : tie.Need-enum-known-of-4
+enum-known-of-4 c = search needs
+
+enum-known-of-5 : tie.Need-enum-known-of-5
+enum-known-of-5 c = search needs
+
+enum-known-of-6 : tie.Need-enum-known-of-6
+enum-known-of-6 c = search needs
+
+of-letters-requires : tie.Need-of-letters-requires
+of-letters-requires c κs = search needs
+
+slice-aggregate-words : tie.Need-slice-aggregate-words
+slice-aggregate-words c = search needs
+
+words-requires : tie.Need-words-requires
+words-requires c κs = search needs
+
+word-requires : tie.Need-word-requires
+word-requires c κs = search needs
 
 same-length : tie.Need-same-length
 same-length c = search needs
@@ -74,6 +96,25 @@ returns-4 c =
     let s = c .before .before in
     rw (s .before .before .before .of3 .given .1) (s .sentence .ensures)
 
+same-length-5 : tie.Need-same-length-5
+same-length-5 c = search needs
+
+returns-5 : tie.Need-returns-5
+unfolding kindTexts
+returns-5 c =
+    let s = c .before .before in
+    let w = s .before .before in
+    rw (w .before .before .before .of6 .given .1) (rw (w .of-letters .ensures) at (s .words .ensures))
+
+same-length-6 : tie.Need-same-length-6
+same-length-6 c = search needs
+
+returns-6 : tie.Need-returns-6
+unfolding kindTexts
+returns-6 c =
+    let s = c .before .before in
+    ⊎-elim (λ w. rw (w .1 .given .1, ← w .3) (s .word .ensures)) (λ w. rw (w .1 .given .1, ← w .3) (s .word .ensures)) (s .before .before .match .came)
+
 pub kind-spec : {M : Type 1} → statement M
 kind-spec =
     tie.close
@@ -89,6 +130,13 @@ kind-spec =
     coded-requires-2
     enum-known-of-3
     sentence-requires
+    enum-known-of-4
+    enum-known-of-5
+    enum-known-of-6
+    of-letters-requires
+    slice-aggregate-words
+    words-requires
+    word-requires
     same-length
     returns
     same-length-2
@@ -96,4 +144,8 @@ kind-spec =
     same-length-3
     returns-3
     same-length-4
-    returns-4)
+    returns-4
+    same-length-5
+    returns-5
+    same-length-6
+    returns-6)

@@ -19,6 +19,12 @@ lay-reading-requires c κs = search needs
 command-row-requires : tie.Need-command-row-requires
 command-row-requires c κs = search needs
 
+read-message-requires : tie.Need-read-message-requires
+read-message-requires c κs = search needs
+
+lay-reading-requires-2 : tie.Need-lay-reading-requires-2
+lay-reading-requires-2 c κs = search needs
+
 same-length : tie.Need-same-length
 same-length c = search needs
 
@@ -39,10 +45,18 @@ same-length-3 c = search needs
 returns-3 : tie.Need-returns-3
 returns-3 c = rw (c .before .before .before .match .keys3) (c .before .command-row .ensures)
 
+same-length-4 : tie.Need-same-length-4
+same-length-4 c = search needs
+
 returns-4 : tie.Need-returns-4
 returns-4 c =
+    let read = c .before .before .before in
+    rw (read .before .match .keys4, ← read .read-message .ensures .answers) (c .before .lay-reading2 .ensures)
+
+returns-5 : tie.Need-returns-5
+returns-5 c =
     let others = c .match .rest in
-    rw (sym (no-family _ (c .before .before .args .bytes .now) (others .0 .0 .1) (others .0 .1) (others .1))) (lays-none 1)
+    rw (sym (no-family _ (c .before .before .args .bytes .now) (others .0 .0 .0 .1) (others .0 .0 .1) (others .0 .1) (others .1))) (lays-none 1)
 
 pub read-row-spec : {M : Type 1} → statement M
 read-row-spec =
@@ -52,10 +66,14 @@ read-row-spec =
     read-sentence-requires
     lay-reading-requires
     command-row-requires
+    read-message-requires
+    lay-reading-requires-2
     same-length
     returns
     same-length-2
     returns-2
     same-length-3
     returns-3
-    returns-4)
+    same-length-4
+    returns-4
+    returns-5)

@@ -1,0 +1,2 @@
+-- What the proofs of the writers share: numbers in their digits.
+pub mod Numbers
