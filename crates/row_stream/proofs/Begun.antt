@@ -2,17 +2,17 @@
 -- Assumes nothing.
 use Prim.Native.Nat.{ℕ, _+_, _-_, _≤_, _<_}
 use mathlib.Core.Path.{_≡_, refl, sym, ap, _∙_}
-use mathlib.Core.Bool.{true}
+use mathlib.Core.Bool.{Bool, true}
 use mathlib.Core.List.{List, _++_}
 use native.Mathlib.Omega.{arith}
 use lib.ListN.{length, take, drop, getD, length-append, length-drop, List·getD-append}
 use lib.Seq.{length-take-le, getD-take, drop-append-le}
 use Rattle.rules.specs.Bytes.{part, every}
-use Rattle.rules.specs.Sentences.{isPayloadByte}
-use Rattle.stream_rules.specs.Heads.{wait, head}
+use Rattle.stream_rules.specs.Heads.{sentenceBrackets, isInner, wait, head}
 use Rattle.frame_laws.proofs.Bytes.{every-append}
 use Rattle.stream_laws.proofs.Runs.{run, run-all}
-use Rattle.stream_laws.proofs.SentenceStarts.{payload-open}
+use Rattle.stream_laws.proofs.Bracketed.{bracketed}
+use Rattle.stream_laws.proofs.BracketStarts.{inner-open}
 use Rattle.spe.proofs.Beginning.{begun, still-begun}
 use Rattle.stream_laws.proofs.Jump.{drop-take}
 use Rattle.search.proofs.Stopping.{begins, stops-waiting}
@@ -46,14 +46,15 @@ module _ (count : ℕ) (held others : List ℕ) (long : length held ≡ 133) whe
   sentence-goes-on g =
       let low : count ≤ 133 = omega (arith, g .short) in
       let held-behind = part 1 (count - 1) held in
+      let inner : ℕ → Bool = isInner sentenceBrackets in
       let behind : drop 1 bytes ≡ held-behind ++ others =
       drop-append-le 1 (take count held) others (omega (arith, g .some, length-take-le count held (omega arith)))
       ∙ ap (λ (l : List ℕ). l ++ others) (drop-take 1 count held) in
-      let payload : every isPayloadByte (drop 1 bytes) ≡ true =
-      ap (every isPayloadByte) behind ∙ every-append isPayloadByte held-behind others (g .payload-held) (g .payload-offered) in
-      let all : run bytes ≡ count + length others - 1 = run-all (drop 1 bytes) payload ∙ length-drop 1 bytes ∙ ap (λ (n : ℕ). n - 1) (size low) in
+      let payload : every inner (drop 1 bytes) ≡ true =
+      ap (every inner) behind ∙ every-append inner held-behind others (g .payload-held) (g .payload-offered) in
+      let all : run sentenceBrackets bytes ≡ count + length others - 1 = run-all sentenceBrackets (drop 1 bytes) payload ∙ length-drop 1 bytes ∙ ap (λ (n : ℕ). n - 1) (size low) in
       let undecided : head 2 bytes ≡ wait =
-      payload-open bytes (first-stands (g .some) low ∙ g .dollar) (count + length others - 1) all (omega (arith, g .short)) (omega (arith, size low)) in
+      inner-open 2 (bracketed 2 refl) bytes (omega (arith, size low, g .some)) (first-stands (g .some) low ∙ g .dollar) (count + length others - 1) all (omega (arith, g .short)) (omega (arith, size low)) in
       record {
         few = record { a-family = family-2; low = omega (arith, g .short); behind = omega (arith, g .short) };
         undecided = sym (waiting 2 bytes _ (stops-waiting 2 bytes 0 0 0 0 (begins 2 bytes 0 0) undecided) refl);

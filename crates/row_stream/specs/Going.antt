@@ -7,8 +7,9 @@ use mathlib.Core.List.{List, _++_}
 use lib.ListN.{length, take, getD}
 use denote.Ref.{now}
 use Rattle.rules.specs.Bytes.{part, every}
-use Rattle.rules.specs.Sentences.{longestPayload, isPayloadByte}
+use Rattle.rules.specs.Sentences.{longestPayload}
 use Rattle.rules.specs.Status.{reportLength}
+use Rattle.stream_rules.specs.Heads.{sentenceBrackets, isInner}
 use Rattle.stream_rules.specs.Streams.{placeCount}
 use Rattle.held_bytes.specs.Held.{LentBytes}
 use Rattle.spe.specs.Ends.{beginsReport}
@@ -26,8 +27,8 @@ pub record SentenceGoesOn (count : ℕ) (held others : List ℕ) : Type 0 where
   pub some : 1 ≤ count
   pub short : count + length others ≤ longestPayload
   pub dollar : getD held 0 0 ≡ code "$"
-  pub payload-held : every isPayloadByte (part 1 (count - 1) held) ≡ true
-  pub payload-offered : every isPayloadByte others ≡ true
+  pub payload-held : every (isInner sentenceBrackets) (part 1 (count - 1) held) ≡ true
+  pub payload-offered : every (isInner sentenceBrackets) others ≡ true
 
 -- In the words of the rules: the call is on few bytes, and the first start stays undecided.
 pub record GoesOn (family count : ℕ) (held others : List ℕ) : Type 0 where

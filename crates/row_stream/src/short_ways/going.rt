@@ -11,7 +11,8 @@ use rules::REPLIES;
 use rules::REPORT_LENGTH;
 use rules::SENTENCES;
 use spe::begins_report;
-use starts::is_payload;
+use starts::are_inner;
+use starts::brackets_of;
 use stream_rules::PLACES;
 use texts::text;
 ghost use mathlib.Core.Path.{_≡_};
@@ -49,10 +50,11 @@ fn sentence_goes_on(count: usize, held: &[u8; PLACES], others: &[u8]) -> bool
     if held[0] != b'$' {
         return false;
     }
-    if !is_payload(others) {
+    let k = brackets_of(SENTENCES);
+    if !are_inner(k, others) {
         return false;
     }
-    is_payload(text(held, 1, count - 1))
+    are_inner(k, text(held, 1, count - 1))
 }
 
 // True only of such a call. Commands are too short for it.
