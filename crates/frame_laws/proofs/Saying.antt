@@ -1,7 +1,7 @@
 -- What the answer of a reader of one frame says in the terms of document 01, from what it is. Assumes nothing.
 use Prim.Native.Nat.{ℕ}
-use mathlib.Core.Path.{_≡_, refl, ap, _∙_}
-use mathlib.Core.Bool.{Bool, true, false, _&&_, _||_, cond, not}
+use mathlib.Core.Path.{_≡_, refl, sym, ap, _∙_}
+use mathlib.Core.Bool.{Bool, true, false, _&&_, _||_, cond, not, false≢true}
 use mathlib.Core.List.{List, [], _∷_}
 use lib.Dec.{eqb}
 use Rattle.rules.specs.Bytes.{oneOf, same}
@@ -87,3 +87,15 @@ one-says family bs = case (eqb family 1) (eqb family 2) (eqb family 3) (eqb fami
 
 pub reads : {family : ℕ} {bs : List ℕ} {answer : Reading} → answer ≡ readOne family bs → Reads family bs answer
 reads {family} {bs} e = record { answers = e; says = ap said e ∙ one-says family bs }
+
+-- Where there is no such family, nothing is read.
+pub no-family : (family : ℕ) (bs : List ℕ) → isFamily family ≡ false → readOne family bs ≡ Refused noFamily
+unfolding readOne oneOf
+no-family family bs = case (eqb family 1) (eqb family 2) (eqb family 3) (eqb family 4)
+  where
+    case : (a b c d : Bool) → (a || (b || (c || (d || false)))) ≡ false → by-family bs a b c d ≡ Refused noFamily
+    case true b c d e = absurd (false≢true (sym e))
+    case false true c d e = absurd (false≢true (sym e))
+    case false false true d e = absurd (false≢true (sym e))
+    case false false false true e = absurd (false≢true (sym e))
+    case false false false false e = refl
