@@ -1,8 +1,8 @@
 -- What stands behind letters: a question where nothing does; and the digits of a number and of pairs, as they are read.
 -- By the clauses of the definitions. Assumes nothing.
 use Prim.Native.Nat.{ℕ, zero, suc, _+_, _*_, _^_, _≤_, _<_}
-use mathlib.Core.Path.{_≡_, refl, sym, ap, _∙_}
-use mathlib.Core.Bool.{Bool, true, false, _&&_, and-false}
+use mathlib.Core.Path.{_≡_, refl, _∙_}
+use mathlib.Core.Bool.{Bool, true, false, _&&_}
 use mathlib.Core.List.{List, [], _∷_}
 use mathlib.Core.Logic.{⊎-elim}
 use native.Mathlib.Nat.{lt-of-lt-of-le, pow-le-pow-right}
@@ -10,10 +10,10 @@ use native.Mathlib.Omega.{arith}
 use lib.Dec.{eqb, lit<}
 use lib.ListN.{length, take, drop, getD, length-take, length-drop}
 use lib.Seq.{length-take-le, take-all, drop-drop, getD-drop}
-use borrow.Author.Tests.{eqb-true, eq-eqb, ne-eqb, le-leb, lt-leb}
+use borrow.Author.Tests.{eqb-true, eq-eqb, le-leb}
 use Rattle.rules.specs.Bytes.{between, every, part}
 use Rattle.rules.specs.Numbers.{isDigit, decimalFrom, decimal}
-use Rattle.rules.specs.Messages.{isNumber, arePairs, pairAt}
+use Rattle.rules.specs.Messages.{arePairs}
 use Rattle.rules.specs.Answers.{notGood, orQuestion, messageIf}
 use Rattle.rules.specs.declared.Message as MessageType
 use Rattle.rules.specs.declared.Message.the-variants.{Question}
