@@ -80,6 +80,40 @@ static void hostile_sentence(struct frame *f, uint64_t *state)
     }
 }
 
+/* Carets, and what a message begins with, without a good end. */
+static void hostile_message(struct frame *f, uint64_t *state)
+{
+    static const char *const nearly[] = {
+        "^;", "^1;", "^HS01;", "^FT1;", "^SN0022;", "^RV1.23;", "^FS6;", "^PWF 75;"
+    };
+    unsigned many = 1 + below(state, 16);
+
+    switch (below(state, 5)) {
+    case 0:                                     /* a run of carets */
+        while (many-- > 0)
+            put(f, '^');
+        break;
+    case 1:                                     /* begun and begun again */
+        while (many-- > 0)
+            put_text(f, "^PWF07");
+        break;
+    case 2:                                     /* one byte too many */
+        for (many = 1 + many % 3; many > 0; many--) {
+            put_text(f, "^AB");
+            put_digits(f, state, 37);
+        }
+        put(f, ';');
+        break;
+    case 3:                                     /* whole, and not good */
+        while (many-- > 0)
+            put_text(f, nearly[below(state, sizeof nearly / sizeof *nearly)]);
+        break;
+    default:                                    /* a check that fails late */
+        response(f, state, 0);
+        f->bytes[f->length - 2] = below(state, 2) == 0 ? '/' : ':';
+    }
+}
+
 /* A piece of a hostile capture.  One in 32 is a good frame, so that there is
  * something to miss. */
 static void hostile_piece(struct frame *f, unsigned family, uint64_t *state)
@@ -89,6 +123,8 @@ static void hostile_piece(struct frame *f, unsigned family, uint64_t *state)
         good_frame(f, family, state);
     else if (family == 2)
         hostile_sentence(f, state);
+    else if (family == 4)
+        hostile_message(f, state);
     else
         hostile_packet(f, family, state);
 }

@@ -10,8 +10,8 @@
 enum { CLEAN, CLICKS, HOSTILE, CUT };
 
 /* Fills s with a capture of n bytes.  family is 1 (SPE to host), 2 (Alpha
- * 9500) or 3 (host to SPE); kind is one of the four above.  The end of the
- * buffer may cut the last frame off. */
+ * 9500), 3 (host to SPE) or 4 (KPA1500); kind is one of the four above.  The
+ * end of the buffer may cut the last frame off. */
 void make_capture(unsigned family, unsigned kind, uint64_t seed,
                   unsigned char *s, size_t n);
 

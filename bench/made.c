@@ -9,6 +9,11 @@
  *             134 bytes.  1 in 8 of the 02 and 03 has fields of any allowed
  *             width, the others have the widths a writer uses.
  *   family 3: commands of 6 bytes; half ask for the status, half are any.
+ *   family 4: 6 in 16 are questions (4 or 5 bytes), 7 in 16 are responses to
+ *             them (5 to 21, mostly 9), 1 in 16 is FT, 2 in 16 are others of 3
+ *             to 40 bytes.  Of questions and responses all letters come up
+ *             equally often.  1 message in 8 has letters of either case, the
+ *             others have capitals.
  */
 #include "made.h"
 
@@ -293,6 +298,113 @@ static void sentence_other(struct frame *f, uint64_t *state)
     put_sums(f);
 }
 
+/* ---- Messages of the KPA1500 -------------------------------------------- */
+
+/* Letters as they are, or each of them in either case. */
+static void put_letters(struct frame *f, uint64_t *state, const char *letters,
+                        int loose)
+{
+    for (; *letters != '\0'; letters++)
+        put(f, (unsigned char)*letters
+               + (loose && below(state, 2) == 0 ? 'a' - 'A' : 0u));
+}
+
+static void put_two(struct frame *f, unsigned value, const char *behind)
+{
+    put(f, '0' + value / 10);
+    put(f, '0' + value % 10);
+    put_text(f, behind);
+}
+
+static void put_clock(struct frame *f, uint64_t *state)
+{
+    static const unsigned char days[12] =
+        {31, 28, 31, 30, 31, 30, 31, 31, 30, 31, 30, 31};
+    unsigned year = below(state, 100), month = below(state, 12);
+    unsigned leap = month == 1 && year % 4 == 0;
+
+    put_two(f, year, "-");
+    put_two(f, month + 1, "-");
+    put_two(f, 1 + below(state, days[month] + leap), "T");
+    put_two(f, below(state, 24), ":");
+    put_two(f, below(state, 60), ":");
+    put_two(f, below(state, 60), "");
+}
+
+/* The letters that have a question and a response, and how many digits the
+ * response has where it is only digits.  RV, FS, HS and CC come last. */
+#define LISTED 11u
+static const struct {
+    const char *letters;
+    unsigned digits;
+} listed[LISTED] = {
+    {"SN", 5}, {"FR", 5}, {"FQ", 5}, {"PWF", 4}, {"PWI", 4}, {"PWR", 4},
+    {"PWD", 4}, {"RV", 0}, {"FS", 0}, {"HS", 0}, {"CC", 0}
+};
+enum { RV = 7, FS = 8, HS = 9 };
+
+static void put_content(struct frame *f, uint64_t *state, unsigned which)
+{
+    if (which < RV) {
+        put_digits(f, state, listed[which].digits);
+    } else if (which == RV) {
+        put_two(f, below(state, 100), ".");
+        put_two(f, below(state, 100), "");
+    } else if (which == FS || which == HS) {
+        put_one_of(f, state, which == FS ? "012345" : "01");
+    } else {
+        put_clock(f, state);
+    }
+}
+
+void response(struct frame *f, uint64_t *state, int loose)
+{
+    unsigned which = below(state, LISTED);
+
+    put(f, '^');
+    put_letters(f, state, listed[which].letters, loose);
+    put_content(f, state, which);
+    put(f, ';');
+}
+
+/* A message with other letters.  No listed ones begin with these, so that
+ * whatever stands behind them does not make them listed.  Half have at most 7
+ * bytes there, half up to as many as there is room for. */
+static void message_other(struct frame *f, uint64_t *state, int loose)
+{
+    static const char *const letters[] = {
+        "I", "AI", "BN", "FL", "IP", "OS", "TM", "VI", "WS", "RVM", "STA", "BRX"
+    };
+    unsigned further, byte;
+
+    put(f, '^');
+    put_letters(f, state, letters[below(state, sizeof letters / sizeof *letters)],
+                loose);
+    further = below(state, below(state, 2) == 0 ? 8 : 40 - (unsigned)f->length);
+    for (; further > 0; further--) {
+        byte = 0x20 + below(state, 0x5F);
+        put(f, byte == '^' || byte == ';' ? ' ' : byte);
+    }
+    put(f, ';');
+}
+
+static void message(struct frame *f, uint64_t *state)
+{
+    unsigned pick = below(state, 16);
+    int loose = below(state, 8) == 0;
+
+    if (pick >= 14) {
+        message_other(f, state, loose);
+    } else if (pick >= 7) {
+        response(f, state, loose);
+    } else {
+        put(f, '^');
+        put_letters(f, state,
+                    pick == 6 ? "FT" : listed[below(state, LISTED)].letters, loose);
+        put(f, ';');
+    }
+}
+
 /* ---- Good frames of a family -------------------------------------------- */
 
 void sentence(struct frame *f, uint64_t *state)
@@ -315,6 +427,8 @@ void good_frame(struct frame *f, unsigned family, uint64_t *state)
     f->length = 0;
     if (family == 2)
         sentence(f, state);
+    else if (family == 4)
+        message(f, state);
     else if (family == 3)
         short_packet(f, 0x55,
                      below(state, 2) == 0 ? 0x90 : codes[below(state, 20)]);

@@ -27,6 +27,9 @@ void put_digits(struct frame *f, uint64_t *state, unsigned many);
 void marks_and_count(struct frame *f, unsigned mark, unsigned count);
 void put_sums(struct frame *f);
 void sentence(struct frame *f, uint64_t *state);
+/* A response of family 4 that has something behind its letters; loose: these in
+ * either case. */
+void response(struct frame *f, uint64_t *state, int loose);
 /* A good frame of the family. */
 void good_frame(struct frame *f, unsigned family, uint64_t *state);
 

@@ -6,8 +6,9 @@
  * else it steps one byte on.  A frame that the end of the capture cuts off is
  * no frame.  What makes it fast is that most steps can be taken several at
  * once, because the bytes already seen rule the starts between them out.  Each
- * place that does so says why. */
+ * place that does so says why.  The walk of family 4 is in plain_messages.c. */
 #include "plain.h"
+#include "plain_messages.h"
 #include "plain_sets.h"
 #include "plain_tables.h"
 
@@ -18,7 +19,7 @@
 #define BEHIND_SUM 73u                /* where a report may have a comma */
 #define SHORTEST_SENTENCE 11u         /* $, APAnn, *, four digits */
 #define LONGEST_PAYLOAD 128u
-#define MOST_FRAMES (LONGEST_CAPTURE / SHORTEST_PACKET)
+#define MOST_FRAMES (LONGEST_CAPTURE / SHORTEST_MESSAGE)
 
 /* ---- SPE packets -------------------------------------------------------- */
 
@@ -390,6 +391,12 @@ static size_t list_sentences(const unsigned char *s, size_t n,
 
 /* ---- The entry ---------------------------------------------------------- */
 
+static size_t shortest_frame(unsigned family)
+{
+    return family == 2 ? SHORTEST_SENTENCE
+         : family == 4 ? SHORTEST_MESSAGE : SHORTEST_PACKET;
+}
+
 static size_t list_family(unsigned family, const unsigned char *s, size_t n,
                           uint32_t *starts, size_t room)
 {
@@ -397,6 +404,8 @@ static size_t list_family(unsigned family, const unsigned char *s, size_t n,
         return list_packets(s, n, starts, room);
     if (family == 2)
         return list_sentences(s, n, starts, room);
+    if (family == 4)
+        return list_messages(s, n, starts, room);
     return list_commands(s, n, starts, room);
 }
 
@@ -406,15 +415,14 @@ static size_t list_family(unsigned family, const unsigned char *s, size_t n,
 unsigned plain_list(unsigned family, const unsigned char *s, size_t n,
                     uint32_t *starts, size_t room, size_t *count)
 {
-    size_t shortest = family == 2 ? SHORTEST_SENTENCE : SHORTEST_PACKET;
     uint32_t aside[MOST_FRAMES];
     size_t found, i;
 
-    if (family < 1 || family > 3)
+    if (family < 1 || family > 4)
         return REFUSED_FAMILY;
     if (n > LONGEST_CAPTURE)
         return REFUSED_LONG;
-    if (room >= n / shortest) {
+    if (room >= n / shortest_frame(family)) {
         *count = list_family(family, s, n, starts, room);
         return 0;
     }

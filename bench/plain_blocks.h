@@ -1,5 +1,6 @@
-/* Sixteen bytes at a time, for the plain stream reader: what it looks at, moves
- * or clears byte by byte would cost more than all the rest of a short call.
+/* Sixteen bytes at a time, for the plain stream reader and for messages in the
+ * plain lister: what is looked at, moved or cleared byte by byte would cost more
+ * than all the rest of a short call.
  * The vector types are those that gcc and clang both have; a compiler makes of
  * them what its machine offers. */
 #ifndef PLAIN_BLOCKS_H
@@ -71,29 +72,36 @@ WITHIN block within(block v, block low, block span)
     return (block)(v - low <= span);
 }
 
-/* Which bytes a payload may hold. */
-WITHIN block payload_of(block v)
+/* What a sentence or a message begins with, and what its text ends with: the
+ * text holds bytes that print, and neither of these. */
+struct ends {
+    uint8_t first, last;
+};
+static const struct ends of_sentence = {'$', '*'}, of_message = {'^', ';'};
+
+/* Which bytes a text may hold. */
+WITHIN block text_of(block v, struct ends ends)
 {
-    return (block)(v - 0x20 <= 0x5E) & (block)(v != '$') & (block)(v != '*');
+    return (block)(v - 0x20 <= 0x5E) & (block)(v != ends.first) & (block)(v != ends.last);
 }
 
-/* The first place from i on, before n, whose byte no payload may hold; or n.
- * The last block reaches back over bytes that were looked at. */
-WITHIN size_t payload_end(const uint8_t *s, size_t i, size_t n)
+/* The first place from i on, before n, whose byte no text may hold; or n.  The
+ * last block reaches back over bytes that were looked at. */
+WITHIN size_t text_end(const uint8_t *s, size_t i, size_t n, struct ends ends)
 {
     block fit;
 
     if (n - i < BLOCK) {
-        while (i < n && s[i] - 0x20u <= 0x5E && s[i] != '$' && s[i] != '*')
+        while (i < n && s[i] - 0x20u <= 0x5E && s[i] != ends.first && s[i] != ends.last)
             i++;
         return i;
     }
     for (; i < n - BLOCK; i += BLOCK) {
-        fit = payload_of(block_at(s + i));
+        fit = text_of(block_at(s + i), ends);
         if (!all_set(fit))
             return i + first_set(~fit);
     }
-    fit = payload_of(block_at(s + n - BLOCK));
+    fit = text_of(block_at(s + n - BLOCK), ends);
     return all_set(fit) ? n : n - BLOCK + first_set(~fit);
 }
 

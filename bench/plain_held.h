@@ -5,8 +5,9 @@
 
 #include "amp.h"
 #include "plain_blocks.h"
+#include "plain_messages.h"
 
-enum { PACKETS = 1, SENTENCES = 2, COMMANDS = 3 };
+enum { PACKETS = 1, SENTENCES = 2, COMMANDS = 3, MESSAGES = 4 };
 enum {
     SHORT_PACKET = 6, REPORT_LENGTH = 75,
     LONGEST_REPORT = 76, BEHIND_SUM = 73,     /* with a comma, which stands there */
@@ -14,7 +15,9 @@ enum {
 };
 
 /* The most bytes that each family holds. */
-static const uint8_t limits[4] = {0, LONGEST_REPORT - 1, HELD, SHORT_PACKET - 1};
+static const uint8_t limits[5] = {
+    0, LONGEST_REPORT - 1, HELD, SHORT_PACKET - 1, LONGEST_MESSAGE - 1
+};
 
 /* The marks and an allowed count, the first mark lowest. */
 #define COMMAND_MARKS UINT64_C(0x01555555)
@@ -31,9 +34,9 @@ WITHIN size_t report_length(uint8_t behind_sum)
 uint32_t settle(amp_reader *reader, const uint8_t *offered, size_t n,
                 int64_t *row, size_t row_len);
 
-/* A call on an open reader of family 1 or 2, with room in the row, of which it
- * is known that no start is left among the held bytes, nor before the offered
- * byte p. */
+/* A call on an open reader of family 1, 2 or 4, with room in the row, of which
+ * it is known that no start is left among the held bytes, nor before the
+ * offered byte p. */
 uint32_t settle_offered(amp_reader *reader, const uint8_t *offered, size_t n,
                         size_t p, int64_t *row);
 

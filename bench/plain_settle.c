@@ -157,7 +157,7 @@ static inline int ends_at_sentence(struct walk *w, int64_t *row)
     w->length = read_written(s, left, row);
     if (w->length > 0)
         return 1;
-    end = payload_end(s, 1, left < LONGEST_PAYLOAD + 2 ? left : LONGEST_PAYLOAD + 2);
+    end = text_end(s, 1, left < LONGEST_PAYLOAD + 2 ? left : LONGEST_PAYLOAD + 2, of_sentence);
     if (end < LONGEST_PAYLOAD + 2) {
         if (end == left || (s[end] == '*' && left - end <= BEHIND_STAR)) {
             if (!w->closed)
@@ -204,15 +204,63 @@ static inline void walk_sentences(struct walk *w, int64_t *row)
     }
 }
 
+/* ---- Family 4 ----------------------------------------------------------- */
+
+/* Whether the walk ends at p, where a caret stands.  If not, it has gone over
+ * the bytes seen to be text, for none of them is a caret. */
+static inline int ends_at_message(struct walk *w, int64_t *row)
+{
+    const uint8_t *s = w->s + w->p;
+    size_t left = w->n - w->p, most = left < LONGEST_MESSAGE ? left : LONGEST_MESSAGE;
+    size_t end = text_end(s, 1, most, of_message);
+
+    if (end == left && left < LONGEST_MESSAGE) {
+        if (!w->closed)
+            return 1;
+    } else if (end < most && s[end] == ';' && read_message(s, end, left, row)) {
+        w->length = end + 1;
+        return 1;
+    }
+    w->p += end;
+    return 0;
+}
+
+/* Goes on to the next caret, over sixteen bytes at once while so many are left. */
+static inline void skip_to_caret(struct walk *w)
+{
+    for (; w->n - w->p >= BLOCK; w->p += BLOCK) {
+        block near = (block)(block_at(w->s + w->p) == '^');
+
+        if (any_set(near)) {
+            w->p += first_set(near);
+            return;
+        }
+    }
+    while (w->p < w->n && w->s[w->p] != '^')
+        w->p++;
+}
+
+static inline void walk_messages(struct walk *w, int64_t *row)
+{
+    while (w->p < w->until) {
+        if (w->s[w->p] != '^')
+            skip_to_caret(w);
+        else if (ends_at_message(w, row))
+            return;
+    }
+}
+
 static inline void walk(struct walk *w, unsigned family, int64_t *row)
 {
     if (family == PACKETS)
         walk_packets(w, row);
-    else
+    else if (family == SENTENCES)
         walk_sentences(w, row);
+    else
+        walk_messages(w, row);
 }
 
-/* ---- Families 1 and 2 --------------------------------------------------- */
+/* ---- Families 1, 2 and 4 ------------------------------------------------ */
 
 /* Answers after a walk over a stretch of which the first count bytes were held
  * and others were dropped before; n were offered. */
@@ -354,14 +402,31 @@ static uint32_t settle_wide(amp_reader *reader, const uint8_t *offered, size_t n
     return lay(row, AMP_DONE, 0);
 }
 
+static size_t values_of_sentence(int64_t number)
+{
+    return number == 2 ? AMP_02_VALUES : number == 3 ? AMP_03_VALUES
+         : number == 5 ? AMP_05_VALUES : 0;
+}
+
+static size_t values_of_response(int64_t letters)
+{
+    return letters == AMP_CC ? AMP_CC_VALUES : letters == AMP_RV ? 2 : letters != AMP_FT;
+}
+
 static size_t places_of(const int64_t *row)
 {
-    if (row[AMP_KIND] == AMP_STATUS)
+    switch (row[AMP_KIND]) {
+    case AMP_STATUS:
         return AMP_VALUES + AMP_STATUS_VALUES;
-    if (row[AMP_KIND] != AMP_SENTENCE)
+    case AMP_SENTENCE:
+        return AMP_VALUES + values_of_sentence(row[AMP_CODE]);
+    case AMP_RESPONSE:
+        return AMP_VALUES + values_of_response(row[AMP_CODE]);
+    case AMP_OTHER:
+        return AMP_VALUES + AMP_OTHER_VALUES;
+    default:
         return AMP_VALUES;
-    return AMP_VALUES + (row[AMP_CODE] == 2 ? AMP_02_VALUES : row[AMP_CODE] == 3 ? AMP_03_VALUES
-                         : row[AMP_CODE] == 5 ? AMP_05_VALUES : 0);
+    }
 }
 
 /* A row that may turn out too short: the call is made on copies, and what it
@@ -383,7 +448,7 @@ static uint32_t settle_narrow(amp_reader *reader, const uint8_t *offered, size_t
 uint32_t settle(amp_reader *reader, const uint8_t *offered, size_t n,
                 int64_t *row, size_t row_len)
 {
-    if (reader->family < 1 || reader->family > 3)
+    if (reader->family < PACKETS || reader->family > MESSAGES)
         return AMP_NO_FAMILY;
     if (reader->count > limits[reader->family])
         return AMP_HOLDS_TOO_MUCH;

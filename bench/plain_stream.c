@@ -176,67 +176,87 @@ APART uint32_t feed_packets(amp_reader *reader, const uint8_t *offered, size_t n
     return settle(reader, offered, n, row, row_len);
 }
 
-/* ---- Family 2 ----------------------------------------------------------- */
+/* ---- What families 2 and 4 share ---------------------------------------- */
 
-/* Whether the held bytes, count from 1 to 127 and the first a dollar sign, are
- * else all ones that a payload may hold.  Blocks are looked at as one_more
- * writes them: a load of which only a part was just written waits. */
-WITHIN int all_payload(const uint8_t *held, size_t count)
+/* Whether the held bytes, count from 1 to 127 and the first of them seen, are
+ * else all ones that a text may hold.  Blocks are looked at as one_more writes
+ * them: a load of which only a part was just written waits. */
+WITHIN int all_text(const uint8_t *held, size_t count, struct ends ends)
 {
-    block fit = payload_of(block_at(held)) | first_of_block(1);
+    block fit = text_of(block_at(held), ends) | first_of_block(1);
     size_t i;
 
     for (i = BLOCK; i <= count; i += BLOCK) {
         if (!all_set(fit))
             return 0;
-        fit = payload_of(block_at(held + i));
+        fit = text_of(block_at(held + i), ends);
     }
     return all_set(fit | ~first_of_block(count + BLOCK - i));
 }
 
 /* The same from the last byte back, in the blocks that calls of sixteen bytes
  * write. */
-WITHIN int all_payload_back(const uint8_t *held, size_t count)
+WITHIN int all_text_back(const uint8_t *held, size_t count, struct ends ends)
 {
     size_t i;
 
     for (i = count; i > BLOCK; i -= BLOCK)
-        if (!all_set(payload_of(block_at(held + i - BLOCK))))
+        if (!all_set(text_of(block_at(held + i - BLOCK), ends)))
             return 0;
-    return all_set(payload_of(block_at(held + 1)) | ~first_of_block(i - 1));
+    return all_set(text_of(block_at(held + 1), ends) | ~first_of_block(i - 1));
 }
 
-/* Takes a byte behind a payload, in the block that it belongs to, and clears
- * what is behind it there and in the blocks that follow. */
+/* The block of held bytes that the next one belongs to, with that byte in it
+ * and nothing behind. */
+WITHIN block filled(const amp_reader *reader, uint8_t byte)
+{
+    size_t within = reader->count % BLOCK;
+    block before = first_of_block(within), here = first_of_block(within + 1) ^ before;
+
+    return (block_at(reader->held + (reader->count - within)) & before)
+         | (((block){0} + byte) & here);
+}
+
+/* Takes a byte behind a text, in the block that it belongs to, and clears the
+ * blocks that follow. */
 WITHIN uint32_t one_more(amp_reader *reader, uint8_t byte, int64_t *row)
 {
-    size_t count = reader->count, within = count % BLOCK;
-    uint8_t *place = reader->held + (count - within);
-    block before = first_of_block(within), here = first_of_block(within + 1) ^ before;
-    block filled = (block_at(place) & before) | (((block){0} + byte) & here);
+    size_t count = reader->count, whole = count - count % BLOCK;
+    block last = filled(reader, byte);
 
     if (count < 112)
-        clear_from(reader->held, count - within + BLOCK);
+        clear_from(reader->held, whole + BLOCK);
     else
         memset(reader->held + HELD - 8, 0, 8);
-    put_block(place, filled);
+    put_block(reader->held + whole, last);
     reader->count = (uint8_t)(count + 1);
     return lay(row, AMP_MORE, 1);
 }
 
-/* A dollar sign behind a payload: the sentence was broken off, and another is
- * begun. */
-WITHIN uint32_t begin_again(amp_reader *reader, int64_t *row)
+/* Behind a text, or where nothing is held, comes what a frame begins with: what
+ * was held is broken off, and another frame is begun. */
+WITHIN uint32_t begin_again(amp_reader *reader, struct ends ends, int64_t *row)
 {
     uint32_t count = reader->count;
 
     clear_from(reader->held, BLOCK);
-    put_block(reader->held, ((block){0} + '$') & first_of_block(1));
+    put_block(reader->held, ((block){0} + ends.first) & first_of_block(1));
     reader->count = 1;
     reader->at += count;
     reader->skipped += count;
     return lay(row, AMP_MORE, 1);
 }
+
+/* Holds what is offered, at most 133 bytes, where nothing was and all places are
+ * clear; wants more. */
+WITHIN uint32_t keep_all(amp_reader *reader, const uint8_t *offered, size_t n, int64_t *row)
+{
+    move_bytes(reader->held, offered, n);
+    reader->count = (uint8_t)n;
+    return lay(row, AMP_MORE, n);
+}
+
+/* ---- Family 2 ----------------------------------------------------------- */
 
 /* The payload ends at end, with a star or with the bytes that are there. */
 WITHIN uint32_t feed_end(amp_reader *reader, const uint8_t *offered, size_t n, size_t end,
@@ -262,12 +282,12 @@ APART uint32_t feed_payload(amp_reader *reader, const uint8_t *offered, size_t n
     const uint8_t *held = reader->held;
     size_t count = reader->count, room = LONGEST_PAYLOAD + 2 - count, end;
 
-    if (all_payload_back(held, count)) {
-        end = count + payload_end(offered, 0, n < room ? n : room);
+    if (all_text_back(held, count, of_sentence)) {
+        end = count + text_end(offered, 0, n < room ? n : room, of_sentence);
         if (end >= LONGEST_PAYLOAD + 2 || (end < count + n && offered[end - count] != '*'))
             return settle_offered(reader, offered, n, end - count, row);
     } else {
-        end = payload_end(held, 1, count);
+        end = text_end(held, 1, count, of_sentence);
         if (held[end] != '*')
             return settle(reader, offered, n, row, row_len);
     }
@@ -287,11 +307,8 @@ APART uint32_t feed_first(amp_reader *reader, const uint8_t *offered, size_t n,
         reader->count = (uint8_t)n;
         return lay(row, AMP_MORE, n);
     }
-    if (n < SHORTEST_WRITTEN && payload_end(offered, 1, n) == n) {
-        move_bytes(reader->held, offered, n);
-        reader->count = (uint8_t)n;
-        return lay(row, AMP_MORE, n);
-    }
+    if (n < SHORTEST_WRITTEN && text_end(offered, 1, n, of_sentence) == n)
+        return keep_all(reader, offered, n, row);
     length = read_written(offered, n, row);
     if (length == 0)
         return settle_offered(reader, offered, n, 0, row);
@@ -307,9 +324,89 @@ APART uint32_t feed_sentences(amp_reader *reader, const uint8_t *offered, size_t
         return feed_first(reader, offered, n, row, row_len);
     if (count > 127 || reader->held[0] != '$')
         return settle(reader, offered, n, row, row_len);
-    if (n == 1 && offered[0] - 0x20u <= 0x5E && all_payload(reader->held, count))
-        return offered[0] != '$' ? one_more(reader, offered[0], row) : begin_again(reader, row);
+    if (n == 1 && offered[0] - 0x20u <= 0x5E && all_text(reader->held, count, of_sentence))
+        return offered[0] != '$' ? one_more(reader, offered[0], row)
+                                 : begin_again(reader, of_sentence, row);
     return feed_payload(reader, offered, n, row, row_len);
+}
+
+/* ---- Family 4 ----------------------------------------------------------- */
+
+/* A semicolon behind a text: the message is read in place, with the block
+ * written whole that a word is then read from. */
+APART uint32_t feed_semicolon(amp_reader *reader, const uint8_t *offered, int64_t *row)
+{
+    size_t count = reader->count;
+
+    put_block(reader->held + (count - count % BLOCK), filled(reader, ';'));
+    if (!read_message(reader->held, count, HELD, row))
+        return settle_offered(reader, offered, 1, 1, row);
+    clear_all(reader);
+    return hand_out(reader, 0, count + 1, 1, row);
+}
+
+/* More than a byte, or none, or one that no text may hold. */
+APART uint32_t feed_text(amp_reader *reader, const uint8_t *offered, size_t n,
+                         int64_t *row, size_t row_len)
+{
+    size_t count = reader->count, room = LONGEST_MESSAGE - count, behind;
+
+    if (!all_text_back(reader->held, count, of_message))
+        return settle(reader, offered, n, row, row_len);
+    behind = text_end(offered, 0, n < room ? n : room, of_message);
+    if (behind == n && behind < room)
+        return take_all(reader, offered, n, row);
+    if (behind < room && offered[behind] == ';') {
+        move_bytes(reader->held + count, offered, behind + 1);
+        if (read_message(reader->held, count + behind, HELD, row)) {
+            clear_all(reader);
+            return hand_out(reader, 0, count + behind + 1, behind + 1, row);
+        }
+    }
+    return settle_offered(reader, offered, n, behind, row);
+}
+
+/* Nothing is held. */
+APART uint32_t feed_caret(amp_reader *reader, const uint8_t *offered, size_t n,
+                          int64_t *row, size_t row_len)
+{
+    size_t most = n < LONGEST_MESSAGE ? n : LONGEST_MESSAGE, end;
+
+    if (!is_clear(reader->held, 0))
+        return settle(reader, offered, n, row, row_len);
+    if (n == 0 || offered[0] != '^')
+        return settle_offered(reader, offered, n, 0, row);
+    end = text_end(offered, 1, most, of_message);
+    if (end == n && n < LONGEST_MESSAGE)
+        return keep_all(reader, offered, n, row);
+    if (end == most || offered[end] != ';' || !read_message(offered, end, n, row))
+        return settle_offered(reader, offered, n, end, row);
+    return hand_out(reader, 0, end + 1, end + 1, row);
+}
+
+/* Whether it is family 4 at all is asked here: with a fourth answer of its own
+ * plain_feed would become a jump through a table, and slower for all. */
+APART uint32_t feed_messages(amp_reader *reader, const uint8_t *offered, size_t n,
+                             int64_t *row, size_t row_len)
+{
+    size_t count = reader->count;
+
+    if (reader->family != MESSAGES || count > limits[MESSAGES])
+        return settle(reader, offered, n, row, row_len);
+    if (count == 0)
+        return n == 1 && offered[0] == '^' ? begin_again(reader, of_message, row)
+                                           : feed_caret(reader, offered, n, row, row_len);
+    if (reader->held[0] != '^')
+        return settle(reader, offered, n, row, row_len);
+    if (n == 1 && all_text(reader->held, count, of_message)) {
+        if (offered[0] == ';')
+            return feed_semicolon(reader, offered, row);
+        if (offered[0] == '^')
+            return begin_again(reader, of_message, row);
+        if (offered[0] - 0x20u <= 0x5E && count < limits[MESSAGES])
+            return one_more(reader, offered[0], row);
+    }
+    return feed_text(reader, offered, n, row, row_len);
 }
 
 /* ---- The entries -------------------------------------------------------- */
@@ -324,13 +421,14 @@ uint32_t plain_feed(amp_reader *reader, const uint8_t *offered, size_t offered_l
             return feed_sentences(reader, offered, offered_len, row, row_len);
         if (reader->family == COMMANDS)
             return feed_commands(reader, offered, offered_len, row, row_len);
+        return feed_messages(reader, offered, offered_len, row, row_len);
     }
     return settle(reader, offered, offered_len, row, row_len);
 }
 
 uint32_t plain_fresh(amp_reader *reader, uint32_t family)
 {
-    if (family < 1 || family > 3)
+    if (family < PACKETS || family > MESSAGES)
         return AMP_NO_FAMILY;
     memset(reader, 0, sizeof *reader);
     reader->family = (uint8_t)family;
@@ -339,7 +437,7 @@ uint32_t plain_fresh(amp_reader *reader, uint32_t family)
 
 uint32_t plain_close(amp_reader *reader)
 {
-    if (reader->family < 1 || reader->family > 3)
+    if (reader->family < PACKETS || reader->family > MESSAGES)
         return AMP_NO_FAMILY;
     if (reader->count > limits[reader->family])
         return AMP_HOLDS_TOO_MUCH;

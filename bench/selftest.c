@@ -1,7 +1,8 @@
 /* Tries the lister out: on the bench cases that a list can show, on reports that
- * end in every way and are cut anywhere, on single frames with fields altered
- * and their sums put right again, on refusals, and on many made captures.
- * Except for the cases the right answer comes from the slow lister of slow.c.
+ * end in every way and are cut anywhere, on messages of every length, name and
+ * date, on single frames with fields altered and their sums put right again, on
+ * refusals, and on many made captures.  Except for the cases the right answer
+ * comes from the slow lister of slow.c.
  *
  *     selftest [SHARE]
  *
@@ -104,6 +105,7 @@ static void packet_cases(void)
     bench("case 11, family 1", 1, "", 0, 0, 0, 0);
     bench("case 11, family 2", 2, "", 0, 0, 0, 0);
     bench("case 11, family 3", 3, "", 0, 0, 0, 0);
+    bench("case 11, family 4", 4, "", 0, 0, 0, 0);
 }
 
 /* A report with these 67 bytes of data and the sum put right, with a comma
@@ -250,28 +252,119 @@ static void printed_sentences(void)
         bench("case 7 and its kin", 2, printed[i], strlen(printed[i]), 1, 0, 0);
 }
 
+/* One message, good as a whole or not at all. */
+static void whole(const char *text, size_t many)
+{
+    bench(text, 4, text, strlen(text), many, 0, 0);
+}
+
+static void good_messages(void)
+{
+    static const char *const good[] = {
+        "^SN;", "^SN00022;", "^RV;", "^RV01.23;", "^PWF;", "^PWF0750;", "^PWI0000;",
+        "^PWR9999;", "^PWD0001;", "^FR14060;", "^FQ00000;", "^FS;", "^FS0;", "^FS5;",
+        "^HS;", "^HS0;", "^HS1;", "^FT;", "^ft;", "^CC;", "^pWf0750;", "^hS1;", "^cc;",
+        "^CC00-02-29T00:00:00;", "^CC99-12-31T23:59:59;", "^cC24-04-30T19:09:05;",
+        "^I;", "^z;", "^A ;", "^RVM01.23;", "^HSAB1;", "^SNx;", "^FTA;", "^PW0750;",
+        "^PWFX0750;", "^P;", "^S N;", "^KPA1500;", "^IP 192.168.1.207;"
+    };
+    size_t i;
+
+    for (i = 0; i < sizeof good / sizeof *good; i++)
+        whole(good[i], 1);
+}
+
+static void bad_messages(void)
+{
+    static const char *const bad[] = {
+        "^;", "^", ";", "^S", "^SN", "SN;", "^1;", "^ SN;", "^@SN;", "^[;", "^`;", "^{;",
+        "^SN0022;", "^SN000220;", "^SN0002 ;", "^SN 0022;", "^SN0002/;", "^SN0002:;",
+        "^SN00022", "^SN00\03722;", "^SN00022\x7F;", "^SN\x1F;", "^SN\x7F;", "^SN\xB0;",
+        "^A\x1F;", "^A\x7F;", "^A\x80;", "^A\xDE;", "^\xC1;",
+        "^RV1.23;", "^RV01.2;", "^RV01,23;", "^RV0123;", "^RV01.234;", "^RV01.23 ;",
+        "^PWF750;", "^PWF00750;", "^PWI-001;", "^PWR0x10;", "^PWD 750;", "^FR1406;",
+        "^FQ14060.;", "^FS6;", "^FS9;", "^FS-;", "^FS00;", "^FS0 ;", "^HS2;", "^HS01;",
+        "^HS 1;", "^HS/;", "^FT1;", "^FT ;", "^FT0T;",
+        "^CC01-02-29T00:00:00;", "^CC00-00-01T00:00:00;", "^CC00-13-01T00:00:00;",
+        "^CC00-19-01T00:00:00;", "^CC00-01-00T00:00:00;", "^CC00-01-32T00:00:00;",
+        "^CC00-04-31T00:00:00;", "^CC00-02-30T00:00:00;", "^CC00-01-01T24:00:00;",
+        "^CC00-01-01T00:60:00;", "^CC00-01-01T00:00:60;", "^CC00-01-01t00:00:00;",
+        "^CC00-01-01 00:00:00;", "^CC00-01-01T00:00:0;", "^CC00-01-01T00:00:000;",
+        "^CC00-01-01T00:00:00Z;", "^CC2000-01-01T00:00:00;", "^CC00-1-01T00:00:00;",
+        "^CC00/01/01T00:00:00;", "^CC00-01-01T00.00.00;", "^CC00-01-01T00:00;", "^CC0;"
+    };
+    size_t i;
+
+    for (i = 0; i < sizeof bad / sizeof *bad; i++)
+        whole(bad[i], 0);
+}
+
+/* A caret, so many bytes of a text, and this behind; then a good message. */
+static void long_message(size_t text, const char *end, size_t many,
+                         uint32_t first, uint32_t second)
+{
+    char b[80];
+
+    memset(b + 1, '~', text);
+    b[0] = '^';
+    b[1] = 'A';
+    bench("a long text", 4, b,
+          1 + text + (size_t)sprintf(b + 1 + text, "%s^FT;", end), many, first, second);
+}
+
+static void message_cases(void)
+{
+    good_messages();
+    bad_messages();
+    long_message(38, ";", 2, 0, 40);
+    long_message(39, ";", 1, 41, 0);
+    long_message(40, ";", 1, 42, 0);
+    long_message(38, "", 1, 39, 0);
+    long_message(39, "", 1, 40, 0);
+    long_message(37, "^;", 1, 40, 0);
+    long_message(38, "^I;", 2, 39, 42);
+    long_message(20, "^I~~~~~~~~~~~~~~~~~;", 2, 21, 41);
+    long_message(20, "^1~~~~~~~~~~~~~~~~~;", 1, 41, 0);
+    bench("carets", 4, "^^^^FT;^^SN;", 12, 2, 3, 8);
+    bench("semicolons", 4, ";;^FT;;^SN;", 11, 2, 2, 7);
+    bench("broken off", 4, "^PWF07^PWF0750;", 15, 1, 6, 0);
+    bench("cut off", 4, "^PWF0750;^PWF0750", 17, 1, 0, 0);
+}
+
 /* ---- Refusals ----------------------------------------------------------- */
 
 static unsigned char large[LONGEST + 1];
 
-static void refusals(void)
+/* As many frames as a capture can have, and room for one less or just enough. */
+static void fullest(unsigned family, size_t many, size_t length)
 {
     size_t count = 77;
 
+    check(plain_list(family, large, LONGEST, places, many - 1, &count) == 4,
+          "room one short");
+    check(count == 77 && places[0] == UNTOUCHED, "refusals leave all alone");
+    check(plain_list(family, large, LONGEST, places, many, &count) == 0
+          && count == many && places[many - 1] == (many - 1) * length,
+          "room just enough");
+}
+
+static void refusals(void)
+{
+    size_t count = 77, i;
+
     places[0] = UNTOUCHED;
     check(plain_list(0, large, 6, places, 1, &count) == 1, "family 0");
-    check(plain_list(4, large, 6, places, 1, &count) == 1, "family 4");
-    check(plain_list(4, large, LONGEST + 1, places, 1, &count) == 1,
+    check(plain_list(5, large, 6, places, 1, &count) == 1, "family 5");
+    check(plain_list(5, large, LONGEST + 1, places, 1, &count) == 1,
           "family before length");
     make_capture(3, CLEAN, 1, large, LONGEST + 1);
     check(plain_list(3, large, LONGEST + 1, places, 0, &count) == 7,
           "length before room");
-    check(plain_list(3, large, LONGEST, places, 10921, &count) == 4,
-          "room one short");
-    check(count == 77 && places[0] == UNTOUCHED, "refusals leave all alone");
-    check(plain_list(3, large, LONGEST, places, 10922, &count) == 0
-          && count == 10922 && places[10921] == 10921 * 6, "room just enough");
-    count = 77;
+    fullest(3, 10922, 6);
+    for (i = 0; i < LONGEST; i++)
+        large[i] = (unsigned char)"^I;"[i % 3];
+    places[0] = UNTOUCHED;
+    fullest(4, 21845, 3);
     check(plain_list(1, NULL, 0, NULL, 0, &count) == 0 && count == 0,
           "nothing at all");
 }
@@ -437,6 +530,91 @@ static void all_short_packets(void)
         }
 }
 
+/* One message with these letters and this behind. */
+static void named(const char *letters, const char *behind)
+{
+    char b[64];
+
+    compare_one(4, (unsigned char *)b, (size_t)sprintf(b, "^%s%s;", letters, behind));
+}
+
+/* All names of one to three letters in capitals, and with one of them in the
+ * other case or a fourth behind; each with nothing, digits and more behind. */
+static void all_names(void)
+{
+    static const char *const behind[] = {"", "1", "0750", "00022", "01.23", " "};
+    char letters[5];
+    unsigned name, i;
+
+    for (name = 0; name < 27 * 27 * 26; name += 1 + roll(2 * share - 1)) {
+        memset(letters, 0, sizeof letters);
+        letters[0] = (char)('A' + name % 26);
+        if (name / 26 % 27 > 0)
+            letters[1] = (char)('@' + name / 26 % 27);
+        if (letters[1] != '\0' && name / 26 / 27 > 0)
+            letters[2] = (char)('@' + name / 26 / 27);
+        for (i = 0; i < sizeof behind / sizeof *behind; i++)
+            named(letters, behind[i]);
+        letters[roll((unsigned)strlen(letters))] ^= 0x20;
+        named(letters, behind[roll(6)]);
+        letters[strlen(letters)] = (char)('a' + roll(26));
+        named(letters, behind[roll(6)]);
+    }
+}
+
+/* Each two digits of a clock in turn take each number; months and days go
+ * through all of theirs together, in a year of 366 days and one of 365. */
+static void all_clocks(void)
+{
+    char b[32];
+    unsigned year, i, k;
+
+    for (year = 0; year < 2; year++)
+        for (i = 0; i < 100 * 100; i += 1 + roll(2 * share - 1)) {
+            sprintf(b, "^CC%02u-%02u-%02uT12:34:56;", 40 + year, i / 100, i % 100);
+            compare_one(4, (unsigned char *)b, 21);
+        }
+    for (year = 0; year < 100; year++)
+        for (i = 28; i < 31; i++) {
+            sprintf(b, "^CC%02u-02-%02uT12:34:56;", year, i);
+            compare_one(4, (unsigned char *)b, 21);
+        }
+    for (i = 0; i < 100; i++)
+        for (k = 12; k <= 18; k += 3) {
+            sprintf(b, "^CC00-02-29T00:00:00;");
+            b[k] = (char)('0' + i / 10);
+            b[k + 1] = (char)('0' + i % 10);
+            compare_one(4, (unsigned char *)b, 21);
+        }
+}
+
+/* Each byte of a made message in turn takes each value; then bytes are changed,
+ * dropped or added. */
+static void altered_messages(void)
+{
+    unsigned char b[80];
+    char text[80];
+    unsigned turn, i, value, change, n;
+
+    for (turn = 0; turn < 20000 / share; turn++) {
+        make_capture(4, CLEAN, turn, b, 40);
+        for (n = 0; b[n] != ';'; n++)
+            text[n] = (char)b[n];
+        memcpy(text + n, ";", 2);
+        for (i = 0; i <= n && turn < 200 / share; i++)
+            for (value = 0; value < 256; value++) {
+                memcpy(b, text, n + 1);
+                b[i] = (unsigned char)value;
+                compare_one(4, b, n + 1);
+            }
+        for (i = 0; i < 10 && strlen(text) > 1; i++) {
+            for (change = 1 + roll(2); change > 0; change--)
+                alter_text(text, "0123456789^;;SNRVPWFIRDQHCTMsnpwf.-:T \x1F\x7F");
+            compare_one(4, (unsigned char *)text, strlen(text));
+        }
+    }
+}
+
 /* ---- Made captures ------------------------------------------------------ */
 
 /* Room: none, a few, just short, just enough, or plenty. */
@@ -451,7 +629,7 @@ static size_t some_room(size_t many, size_t n)
     }
 }
 
-static unsigned long frames_seen[4][KINDS];
+static unsigned long frames_seen[5][KINDS];
 
 static void one_capture(unsigned family, unsigned kind, uint64_t seed, size_t n)
 {
@@ -472,7 +650,7 @@ static void made_captures(void)
 {
     unsigned family, kind, seed;
 
-    for (family = 1; family <= 3; family++)
+    for (family = 1; family <= 4; family++)
         for (kind = 0; kind < KINDS; kind++) {
             for (seed = 0; seed < 2500 / share; seed++)
                 one_capture(family, kind, seed, roll(seed % 5 < 2 ? 160 : 2500));
@@ -495,6 +673,7 @@ int main(int argc, char **argv)
     broken_off_cases();
     sentence_cases();
     printed_sentences();
+    message_cases();
     refusals();
     printf("bench cases and refusals: %lu checks, %lu wrong\n", tried, failed);
     all_short_packets();
@@ -502,6 +681,9 @@ int main(int argc, char **argv)
     altered_reports();
     altered_ends();
     altered_sentences();
+    all_names();
+    all_clocks();
+    altered_messages();
     printf("single frames: %lu with a good frame, %lu without\n",
            good_seen, bad_seen);
     made_captures();

@@ -219,10 +219,87 @@ static int slow_sentence(const unsigned char *b, size_t n)
     return memcmp(b + n - 4, sums, 4) == 0 && slow_payload(payload);
 }
 
+/* Whether a text is laid out as the form says: a digit where the form has a
+ * nought, else the very byte. */
+static int formed(const char *t, const char *form)
+{
+    size_t i;
+
+    if (strlen(t) != strlen(form))
+        return 0;
+    for (i = 0; form[i] != '\0'; i++)
+        if (form[i] == '0' ? !one_of(t[i], "0123456789") : t[i] != form[i])
+            return 0;
+    return 1;
+}
+
+/* How many days a month has, by the rhyme; none for a month that is not. */
+static int days_of(int month, int year)
+{
+    if (month == 4 || month == 6 || month == 9 || month == 11)
+        return 30;
+    if (month == 2)
+        return year % 4 == 0 ? 29 : 28;
+    return month >= 1 && month <= 12 ? 31 : 0;
+}
+
+/* Whether a text is a date of 2000 to 2099 and a time of day. */
+static int slow_clock(const char *t)
+{
+    return formed(t, "00-00-00T00:00:00")
+        && atoi(t + 6) >= 1 && atoi(t + 6) <= days_of(atoi(t + 3), atoi(t))
+        && atoi(t + 9) <= 23 && atoi(t + 12) <= 59 && atoi(t + 15) <= 59;
+}
+
+/* Whether the letters, in capitals, may have this behind them, which is not
+ * nothing. */
+static int slow_reply(const char *letters, const char *behind)
+{
+    static const char *const forms[][2] = {
+        {"SN", "00000"}, {"RV", "00.00"}, {"PWF", "0000"}, {"PWI", "0000"},
+        {"PWR", "0000"}, {"PWD", "0000"}, {"FR", "00000"}, {"FQ", "00000"},
+        {"FS", "0"}, {"HS", "0"}
+    };
+    size_t i;
+
+    for (i = 0; i < sizeof forms / sizeof *forms; i++)
+        if (strcmp(letters, forms[i][0]) == 0 && !formed(behind, forms[i][1]))
+            return 0;
+    if (strcmp(letters, "FS") == 0)
+        return atoi(behind) <= 5;
+    if (strcmp(letters, "HS") == 0)
+        return atoi(behind) <= 1;
+    if (strcmp(letters, "CC") == 0)
+        return slow_clock(behind);
+    return strcmp(letters, "FT") != 0;
+}
+
+static int slow_message(const unsigned char *b, size_t n)
+{
+    char text[39], letters[39];
+    size_t i, run;
+
+    if (n < 3 || n > 40 || b[0] != '^' || b[n - 1] != ';')
+        return 0;
+    for (i = 1; i < n - 1; i++) {
+        if (b[i] < 0x20 || b[i] > 0x7E || b[i] == '^' || b[i] == ';')
+            return 0;
+        text[i - 1] = (char)b[i];
+    }
+    text[n - 2] = '\0';
+    run = strspn(text, "ABCDEFGHIJKLMNOPQRSTUVWXYZabcdefghijklmnopqrstuvwxyz");
+    for (i = 0; i < run; i++)
+        letters[i] = (char)(text[i] >= 'a' ? text[i] - 'a' + 'A' : text[i]);
+    letters[run] = '\0';
+    return run > 0 && (text[run] == '\0' || slow_reply(letters, text + run));
+}
+
 int slow_frame(unsigned family, const unsigned char *b, size_t n)
 {
     if (family == 2)
         return slow_sentence(b, n);
+    if (family == 4)
+        return slow_message(b, n);
     return slow_short(family, b, n) || (family == 1 && slow_report(b, n));
 }
 

@@ -5,13 +5,14 @@
  *
  *     streamtest [SHARE]
  *
- * The calls are of five sorts: made captures in pieces of many sizes, closed
+ * The calls are of six sorts: made captures in pieces of many sizes, closed
  * and drained; one to four calls on states of any bytes or nearly right ones,
  * with rows of any length; frames with bytes altered and their sums put right
- * again; frames of which each byte in turn takes each value; and reports that
- * end in every way, or never do, cut anywhere.  With a share about one of that
- * many turns is taken.  What is offered ends where the memory that may be read
- * ends. */
+ * again; frames of which each byte in turn takes each value; reports that end
+ * in every way, or never do, cut anywhere; and messages with clocks of all
+ * digits, or nearly too long or just so, cut anywhere.  With a share about one
+ * of that many turns is taken.  What is offered ends where the memory that may
+ * be read ends. */
 #include "amp.h"
 #include "captures.h"
 #include "made.h"
@@ -31,7 +32,7 @@ static uint64_t chances = 1;
 
 static amp_reader proved, plain;
 static int64_t proved_row[PLACES], plain_row[PLACES];
-static unsigned long gave[9], kinds[7];
+static unsigned long gave[9], kinds[AMP_OTHER + 1];
 
 /* The end of the memory that may be read. */
 static uint8_t *fence;
@@ -98,7 +99,7 @@ static uint32_t feed_both(const uint8_t *bytes, size_t n, size_t room, const cha
           && (a == 0 || memcmp(&before, &plain, sizeof before) == 0), what);
     gave[a < 9 ? a : 8]++;
     if (a == 0)
-        kinds[proved_row[AMP_KIND] % 7]++;
+        kinds[(uint64_t)proved_row[AMP_KIND] % (AMP_OTHER + 1)]++;
     return a;
 }
 
@@ -129,7 +130,8 @@ static void offer_both(const uint8_t *bytes, size_t n, const char *what)
         }
         bytes += proved_row[AMP_TAKEN];
         n -= (size_t)proved_row[AMP_TAKEN];
-        if (proved_row[AMP_KIND] >= AMP_MORE || !same_states())
+        if (proved_row[AMP_KIND] == AMP_MORE || proved_row[AMP_KIND] == AMP_DONE
+            || !same_states())
             return;
     }
 }
@@ -150,10 +152,12 @@ static uint8_t large[LONGEST];
 /* Many pieces of one size, then of another, for each has its own short ways. */
 static size_t some_piece(void)
 {
-    static const unsigned sizes[] = {0, 1, 1, 2, 5, 16, 16, 74, 75, 76, 133, 134, 4096};
-    unsigned pick = below(&chances, 17);
+    static const unsigned sizes[] = {
+        0, 1, 1, 2, 5, 16, 16, 39, 40, 74, 75, 76, 133, 134, 4096
+    };
+    unsigned pick = below(&chances, 19);
 
-    return pick < 13 ? sizes[pick] : below(&chances, pick == 13 ? 5000 : 40);
+    return pick < 15 ? sizes[pick] : below(&chances, pick == 15 ? 5000 : 40);
 }
 
 static void one_capture(unsigned family, unsigned kind, uint64_t seed, size_t n)
@@ -185,7 +189,7 @@ static void captures(void)
 {
     unsigned family, kind, seed;
 
-    for (family = 1; family <= 3; family++)
+    for (family = 1; family <= 4; family++)
         for (kind = 0; kind < KINDS; kind++) {
             for (seed = 0; seed < 10 / share + 1; seed++)
                 one_capture(family, kind, 50 + seed, LONGEST);
@@ -211,14 +215,44 @@ static void spoil(uint8_t *b, size_t n)
 
     while (n > 0 && many-- > 0)
         b[below(&chances, (unsigned)n)] = below(&chances, 2) == 0 ? (uint8_t)below(&chances, 256)
-            : (uint8_t)"\xAA\x55\x01\x43$*,0 A\x7F\x0D"[below(&chances, 12)];
+            : (uint8_t)"\xAA\x55\x01\x43$*,0 A\x7F\x0D^;\x1F"[below(&chances, 15)];
+}
+
+/* A text, begun by what begins it, so that the longest ones come up too; half
+ * of them have what ends it among their last bytes. */
+static void some_text(uint8_t *to, size_t n, unsigned family)
+{
+    uint8_t first = family == 4 ? '^' : '$', last = family == 4 ? ';' : '*';
+    size_t i;
+
+    fill(to, n);
+    for (i = 0; i < n; i++)
+        to[i] = to[i] % 95 + 32 == first || to[i] % 95 + 32 == last ? '_' : to[i] % 95 + 32;
+    if (n > 0)
+        to[0] = first;
+    if (n > 0 && below(&chances, 2) == 0)
+        to[n - 1 - below(&chances, (unsigned)(n < 6 ? n : 6))] = last;
+}
+
+/* What frames of the family begin with, and perhaps more. */
+static void some_begun(struct frame *f, unsigned family)
+{
+    if (family == 4) {
+        f->length = 1 + below(&chances, 42);
+        some_text(f->bytes, f->length, 4);
+    } else if (below(&chances, 3) > 0) {
+        put_text(f, below(&chances, 2) == 0 ? "$" : "$APA99,");
+    } else {
+        marks_and_count(f, family == 1 ? 0xAA : 0x55, below(&chances, 3) == 0 ? 1 : 0x43);
+    }
 }
 
 /* What a line of the family may be made of, n bytes: frames good, spoiled or cut
- * off, marks, counts, dollar signs, stars, rubbish. */
+ * off, marks, counts, dollar signs, stars, carets, semicolons, rubbish. */
 static void some_line(uint8_t *to, size_t n, unsigned family)
 {
-    static const char rich[] = "\xAA\xAA\xAA\x55\x55\x55\x01\x01\x43\x0D\x0D\x90$$*AP0";
+    static const char rich[] = "\xAA\xAA\xAA\x55\x55\x55\x01\x01\x43\x0D\x0D\x90$$*AP0",
+                      letters[] = "^^;;SNRVPWFFTHCsn0175.-: \x1F\x7F";
     size_t at = 0;
     struct frame f;
 
@@ -230,14 +264,13 @@ static void some_line(uint8_t *to, size_t n, unsigned family)
             good_frame(&f, family, &chances);
         else if (pick < 8)
             while (many-- > 0)
-                put(&f, (uint8_t)rich[below(&chances, sizeof rich - 1)]);
+                put(&f, family == 4 ? (uint8_t)letters[below(&chances, sizeof letters - 1)]
+                                    : (uint8_t)rich[below(&chances, sizeof rich - 1)]);
         else if (pick < 9)
             while (many-- > 0)
                 put(&f, below(&chances, 256));
-        else if (pick < 10)
-            marks_and_count(&f, family == 1 ? 0xAA : 0x55, below(&chances, 3) == 0 ? 1 : 0x43);
         else
-            put_text(&f, below(&chances, 2) == 0 ? "$" : "$APA99,");
+            some_begun(&f, family);
         if (below(&chances, 4) == 0)
             spoil(f.bytes, f.length);
         if (below(&chances, 4) == 0 && f.length > 1)
@@ -247,24 +280,10 @@ static void some_line(uint8_t *to, size_t n, unsigned family)
     }
 }
 
-/* Bytes a payload may hold, so that the longest ones come up too. */
-static void some_payload(uint8_t *to, size_t n)
-{
-    size_t i;
-
-    fill(to, n);
-    for (i = 0; i < n; i++)
-        to[i] = to[i] % 95 + 32 == '$' || to[i] % 95 + 32 == '*' ? '_' : to[i] % 95 + 32;
-    if (n > 0)
-        to[0] = '$';
-    if (n > 0 && below(&chances, 2) == 0)
-        to[n - 1 - below(&chances, (unsigned)(n < 6 ? n : 6))] = '*';
-}
-
 static void some_state(uint8_t *line)
 {
-    static const unsigned limits[4] = {0, 75, 133, 5};
-    unsigned family = 1 + below(&chances, 3), count = below(&chances, limits[family] + 1);
+    static const unsigned limits[5] = {0, 75, 133, 5, 39};
+    unsigned family = 1 + below(&chances, 4), count = below(&chances, limits[family] + 1);
 
     fill(&proved, sizeof proved);
     if (below(&chances, 16) != 0) {
@@ -275,10 +294,12 @@ static void some_state(uint8_t *line)
         proved.count = (uint8_t)count;
         some_line(line, 700, family);
         if (below(&chances, 4) == 0)
-            some_payload(line, count);
+            some_text(line, count, family);
         memcpy(proved.held, line, count < 133 ? count : 133);
         if (below(&chances, 3) > 0 && count < 133)
             memset(proved.held + count, 0, 133 - count);
+        if (below(&chances, 64) == 0)
+            proved.family = (uint8_t)(below(&chances, 2) == 0 ? 0 : 5 + below(&chances, 251));
     }
     plain = proved;
 }
@@ -337,6 +358,21 @@ static void put_right(struct frame *f)
     f->bytes[72] = (uint8_t)(sum >> 8);
 }
 
+/* Changes, drops or adds a byte of a message behind its caret. */
+static void alter_message(struct frame *f)
+{
+    static const char likely[] = "0123456789012345 .-:T;^SNRVPWFIRDQHCTfrswAMx/@[`{\x1F\x7F";
+    size_t at = 1 + below(&chances, (unsigned)f->length - 1);
+    unsigned how = below(&chances, 4);
+
+    if (how == 0 && f->length > 2)
+        memmove(f->bytes + at, f->bytes + at + 1, --f->length - at);
+    else if (how == 1)
+        memmove(f->bytes + at + 1, f->bytes + at, f->length++ - at);
+    else
+        f->bytes[at] = (uint8_t)likely[below(&chances, sizeof likely - 1)];
+}
+
 /* Changes, drops or adds a byte before the last four; of packets only changes. */
 static void alter(struct frame *f)
 {
@@ -370,21 +406,27 @@ static void altered(void)
     unsigned long turn;
 
     for (turn = 0; turn < 3000000 / share; turn++) {
-        unsigned family = 1 + below(&chances, 2), many = below(&chances, 4);
+        static const uint8_t families[3] = {1, 2, 4};
+        unsigned family = families[below(&chances, 3)], many = below(&chances, 4);
         struct frame f;
 
         if (below(&chances, 64) == 0)
             family = 3;
         good_frame(&f, family, &chances);
         while (many-- > 0)
-            alter(&f);
-        put_right(&f);
+            if (family == 4)
+                alter_message(&f);
+            else
+                alter(&f);
+        if (family != 4)
+            put_right(&f);
         offer_frame(family, &f, below(&chances, 2) == 0 ? 0 : below(&chances, (unsigned)f.length + 1));
     }
 }
 
-/* Each byte of a frame behind the first four in turn takes each value.  The
- * grid voltage of a sentence 02 in the writer's widths is near its top. */
+/* Each byte of a packet or a sentence behind the first four in turn takes each
+ * value.  The grid voltage of a sentence 02 in the writer's widths is near its
+ * top. */
 static void every_byte(void)
 {
     unsigned turn, value;
@@ -407,6 +449,25 @@ static void every_byte(void)
     }
 }
 
+/* Each byte of a message in turn takes each value, and another message follows. */
+static void every_byte_of_messages(void)
+{
+    unsigned turn, value;
+    struct frame clean, f;
+    size_t i;
+
+    for (turn = 0; turn < 400 / share + 2; turn++) {
+        good_frame(&clean, 4, &chances);
+        for (i = 0; i < clean.length; i++)
+            for (value = 0; value < 256; value++) {
+                f = clean;
+                f.bytes[i] = (unsigned char)value;
+                put_text(&f, "^FT;");
+                offer_frame(4, &f, below(&chances, 2) == 0 ? 0 : i);
+            }
+    }
+}
+
 /* ---- Ends of reports ---------------------------------------------------- */
 
 static void made_report(struct frame *f)
@@ -422,16 +483,17 @@ static void soil(void)
     size_t i;
 
     for (i = proved.count; i < sizeof proved.held; i++)
-        proved.held[i] = plain.held[i] = (uint8_t)",\x0D\x0A\xAA"[below(&chances, 4)];
+        proved.held[i] = plain.held[i] = (uint8_t)",\x0D\x0A\xAA;^A"[below(&chances, 7)];
 }
 
 /* A line offered to fresh readers, up to a cut and then in pieces of a size;
  * closed and drained. */
-static void offer_line(const uint8_t *line, size_t n, size_t cut, size_t piece, const char *what)
+static void offer_line(unsigned family, const uint8_t *line, size_t n, size_t cut, size_t piece,
+                       const char *what)
 {
     size_t at = cut < n ? cut : n;
 
-    fresh_both(1);
+    fresh_both(family);
     offer_both(line, at, what);
     if (below(&chances, 2) == 0)
         soil();
@@ -440,14 +502,14 @@ static void offer_line(const uint8_t *line, size_t n, size_t cut, size_t piece, 
     drain_both(what);
 }
 
-static void cut_anywhere(const uint8_t *line, size_t n, const char *what)
+static void cut_anywhere(unsigned family, const uint8_t *line, size_t n, const char *what)
 {
     size_t cut;
 
     for (cut = 0; cut <= n; cut++)
-        offer_line(line, n, cut, n, what);
-    offer_line(line, n, 0, 1, what);
-    offer_line(line, n, 0, 16, what);
+        offer_line(family, line, n, cut, n, what);
+    offer_line(family, line, n, 0, 1, what);
+    offer_line(family, line, n, 0, 16, what);
 }
 
 /* Four bytes behind the check bytes of a made report are all that may mean
@@ -466,9 +528,9 @@ static void line_ends(void)
             line[i] = (uint8_t)",\x0D\x0A\xAA-"[left % 5];
         memcpy(line + 77, "\xAA\xAA\xAA\x01\x0D\x0D", 6);
         for (cut = 72; cut < 84; cut++) {
-            offer_line(line, cut, 1 + below(&chances, 72), cut, "the end of a report");
-            offer_line(line, cut, below(&chances, 5), 1, "the end of a report");
-            offer_line(line, 83, cut, 83, "the end of a report");
+            offer_line(1, line, cut, 1 + below(&chances, 72), cut, "the end of a report");
+            offer_line(1, line, cut, below(&chances, 5), 1, "the end of a report");
+            offer_line(1, line, 83, cut, 83, "the end of a report");
         }
     }
 }
@@ -484,9 +546,9 @@ static void begun_report(size_t noise, size_t place, uint8_t behind_sum)
     memcpy(line + noise, "\xAA\xAA\xAA\x43", 4);
     memcpy(line + noise + place, "\xAA\xAA\xAA\x01\x0D\x0D\xAA\xAA\xAA\x01\x09\x09", 12);
     line[noise + 73] = behind_sum;
-    cut_anywhere(line, n, "held back");
+    cut_anywhere(1, line, n, "held back");
     for (end = noise + 72; end < noise + 80; end++)
-        offer_line(line, end, end, 1, "held back, and closed");
+        offer_line(1, line, end, end, 1, "held back, and closed");
 }
 
 static void held_back(void)
@@ -514,8 +576,73 @@ static void broken_off(void)
             good_frame(&f, 1, &chances);
             memcpy(line + n, f.bytes, f.length);
         }
-        cut_anywhere(line, n, "broken off");
+        cut_anywhere(1, line, n, "broken off");
     }
+}
+
+/* ---- Clocks and lengths of messages ------------------------------------- */
+
+static void one_clock(const unsigned *number)
+{
+    struct frame f;
+
+    f.length = (size_t)sprintf((char *)f.bytes, "^CC%02u-%02u-%02uT%02u:%02u:%02u;", number[0],
+                               number[1], number[2], number[3], number[4], number[5]);
+    offer_frame(4, &f, below(&chances, 2) == 0 ? 0 : below(&chances, 22));
+}
+
+/* Each number of a clock goes through all of its digits; months and days go
+ * through theirs together, in a year of 366 days and one of 365. */
+static void clocks(void)
+{
+    unsigned i, k;
+
+    for (i = 0; i < 2 * 20 * 40; i++)
+        one_clock((const unsigned[]){40 + i / 800, i / 40 % 20, i % 40, 12, 34, 56});
+    for (i = 0; i < 600; i++) {
+        unsigned number[6] = {0, 2, 29, 0, 0, 0};
+
+        number[i / 100] = i % 100;
+        one_clock(number);
+    }
+    for (i = 0; i < 100; i++)
+        for (k = 28; k < 31; k++)
+            one_clock((const unsigned[]){i, 2, k, 23, 59, 59});
+}
+
+/* A text of about the most bytes behind a caret, ended by a semicolon or by any
+ * other byte that may mean something, or by nothing; with another caret at a
+ * place in it, or a byte that no text may hold, or none.  Then a message. */
+static void long_message(size_t text, const char *end, size_t place, uint8_t among)
+{
+    uint8_t line[80];
+    size_t n = 1 + text + strlen(end);
+
+    memset(line, below(&chances, 2) == 0 ? 'q' : '~', 1 + text);
+    line[0] = '^';
+    line[1] = below(&chances, 8) == 0 ? '1' : 'A';
+    if (place > 0)
+        line[place] = among;
+    memcpy(line + 1 + text, end, strlen(end));
+    memcpy(line + n, "^FT;", 4);
+    cut_anywhere(4, line, n, "a long message");
+    cut_anywhere(4, line, n + 4, "a long message, and another");
+}
+
+static void long_messages(void)
+{
+    static const char *const ends[] = {";", "", "^", "\x1F", "\x7F", "_", ";;", "^;"};
+    size_t text, place;
+    unsigned i;
+
+    for (text = 35; text <= 42; text++)
+        for (i = 0; i < sizeof ends / sizeof *ends; i++) {
+            long_message(text, ends[i], 0, 0);
+            for (place = 1; place <= text; place += share) {
+                long_message(text, ends[i], place, '^');
+                long_message(text, ends[i], place, below(&chances, 2) == 0 ? 0x1F : 0x7F);
+            }
+        }
 }
 
 int main(int argc, char **argv)
@@ -532,14 +659,17 @@ int main(int argc, char **argv)
     printf("with states: %lu tried, %lu failed\n", tried, failed);
     altered();
     every_byte();
+    every_byte_of_messages();
     line_ends();
     held_back();
     broken_off();
+    clocks();
+    long_messages();
     printf("numbers for no:");
     for (i = 0; i < 9; i++)
         printf(" %u: %lu", i, gave[i]);
     printf("\nkinds of answers:");
-    for (i = 1; i < 7; i++)
+    for (i = 1; i <= AMP_OTHER; i++)
         printf(" %u: %lu", i, kinds[i]);
     printf("\n%lu tried, %lu failed\n", tried, failed);
     return failed == 0 ? 0 : 1;

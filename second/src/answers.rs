@@ -6,8 +6,8 @@ use crate::calls::{Call, Lent, Outcome};
 use crate::frames::{frame_at_front, written, Family, Frame, LONGEST_INPUT};
 use crate::listing::list_frames;
 use crate::rows::{bare_row, frame_of, frame_row, Found};
-use crate::spe;
 use crate::stream::{Answer, Reader};
+use crate::{kpa, spe};
 
 /// The three bytes that enable the Alpha.
 const ENABLE: &[u8] = b"+++";
@@ -52,6 +52,7 @@ pub fn family_of(number: u32) -> Result<Family, u32> {
         1 => Ok(Family::SpeReplies),
         2 => Ok(Family::Alpha),
         3 => Ok(Family::SpeCommands),
+        4 => Ok(Family::Kpa),
         _ => Err(AMP_NO_FAMILY),
     }
 }
@@ -62,6 +63,7 @@ pub fn most_held(family: Family) -> usize {
         Family::SpeReplies => spe::COMMA_LENGTH - 1,
         Family::Alpha => 133,
         Family::SpeCommands => 5,
+        Family::Kpa => kpa::LONGEST_MESSAGE - 1,
     }
 }
 
@@ -240,6 +242,7 @@ fn bytes_of(frame: &Frame) -> Vec<u8> {
         Frame::Acknowledgement(_) | Frame::Status(_) => Family::SpeReplies,
         Frame::Sentence(_) => Family::Alpha,
         Frame::Command(_) => Family::SpeCommands,
+        Frame::Message(_) => Family::Kpa,
     };
     let again = frame_at_front(family, &bytes);
     assert_eq!(again, Some((frame.clone(), bytes.len())));

@@ -19,11 +19,15 @@ mod chance;
 mod frames;
 mod held_against;
 #[allow(dead_code)]
+mod kpa;
+#[allow(dead_code)]
 mod listing;
 #[allow(dead_code)]
 mod make_alpha;
 #[allow(dead_code)]
 mod make_comma;
+#[allow(dead_code)]
+mod make_kpa;
 #[allow(dead_code)]
 mod make_spe;
 #[allow(dead_code)]
@@ -32,6 +36,8 @@ mod rng;
 mod rows;
 #[allow(dead_code)]
 mod spe;
+#[allow(dead_code)]
+mod spoil_kpa;
 mod stream;
 
 use calls::Group;

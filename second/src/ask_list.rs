@@ -2,7 +2,7 @@
 
 use crate::calls::{Call, Lent};
 use crate::chance;
-use crate::frames::{Family, LONGEST_INPUT};
+use crate::frames::{Family, FAMILIES, LONGEST_INPUT};
 use crate::held_against::Tally;
 use crate::listing::list_frames;
 use crate::pieces;
@@ -13,12 +13,12 @@ const REPORTS: &[u32] = &[0, 0, 0, 1, 1, 2, 0x100, 0x8000_0000, u32::MAX];
 
 /// The longest captures and too long ones, and the rows of ends.
 pub fn all(tally: &mut Tally, rng: &mut Rng) {
-    for family in [Family::SpeReplies, Family::Alpha, Family::SpeCommands] {
+    for family in FAMILIES {
         let mut capture = pieces::stream(family, rng, LONGEST_INPUT + 2);
         for length in [LONGEST_INPUT + 2, LONGEST_INPUT + 1, LONGEST_INPUT] {
             capture.truncate(length);
             let frames = list_frames(family, &capture).len();
-            for number in [chance::number(family), 0, 4] {
+            for number in [chance::number(family), 0, 5] {
                 for room in [0, frames.saturating_sub(1), frames, frames + 1] {
                     list(tally, rng, number, &capture, room);
                 }

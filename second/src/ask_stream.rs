@@ -7,6 +7,7 @@ use crate::calls::{Call, Lent, Outcome};
 use crate::chance;
 use crate::frames::Family;
 use crate::held_against::Tally;
+use crate::make_kpa::{all_long_starts, undecided_end};
 use crate::make_spe::sound_data;
 use crate::pieces;
 use crate::rng::Rng;
@@ -17,6 +18,10 @@ const SIZES: &[&[usize]] = &[
     &[1],
     &[0, 1, 2, 3],
     &[5, 6, 7],
+    &[38],
+    &[39],
+    &[40],
+    &[37, 38, 39, 40, 41, 1, 1],
     &[74],
     &[75],
     &[76],
@@ -33,7 +38,7 @@ const COUNTS: &[u32] = &[0, 1, 75, 0x8000_0000, u32::MAX - 80, u32::MAX - 1, u32
 
 /// Every number of held bytes for every family, and none.
 pub fn all(tally: &mut Tally, rng: &mut Rng) {
-    for family in [0, 1, 2, 3, 4, 0x31, 255] {
+    for family in [0, 1, 2, 3, 4, 5, 0x34, 255] {
         for count in 0..=255 {
             for closed in [0, 1, 2, 255] {
                 let mut state = any_state(rng);
@@ -53,6 +58,10 @@ pub fn all(tally: &mut Tally, rng: &mut Rng) {
         for room in 0..=AMP_ROW + 1 {
             comma_report_held(tally, rng, missing, room);
         }
+    }
+    messages_held(tally, rng);
+    for start in all_long_starts(rng) {
+        long_start_offered(tally, rng, &start);
     }
 }
 
@@ -75,6 +84,42 @@ fn comma_report_held(tally: &mut Tally, rng: &mut Rng, missing: usize, room: usi
     }
 }
 
+/// A caret and as many bytes as can wait behind it are held, whatever the first
+/// of them is, and one byte more comes, or more than one. When a start is given
+/// up shows in nothing but what the reader holds afterwards.
+fn messages_held(tally: &mut Tally, rng: &mut Rng) {
+    let offers: [&[u8]; 11] = [
+        b"", b"x", b"7", b";", b"^", b"\x1F", b"\x7F", b"\x00", b"\xFF", b"x;", b"^SN;",
+    ];
+    for first in b"SsZ0 ~@[" {
+        for count in 1..=39 {
+            let mut state = any_state(rng);
+            state.family = 4;
+            state.closed = 0;
+            state.count = count;
+            state.held[0] = b'^';
+            state.held[1] = *first;
+            state.held[2..].fill(b'x');
+            for offered in offers {
+                feed(tally, rng, &state, offered, AMP_ROW);
+            }
+        }
+    }
+}
+
+/// A start that waits long, offered to a fresh reader whole, and cut in two
+/// around the place where it is decided at the latest.
+fn long_start_offered(tally: &mut Tally, rng: &mut Rng, start: &[u8]) {
+    let fresh = fresh(tally, rng, 4);
+    for cut in [0, 1, 2, 37, 38, 39, 40, 41, 42, 77] {
+        let (head, tail) = start.split_at(cut.min(start.len()));
+        let outcome = feed(tally, rng, &fresh, head, AMP_ROW);
+        let state = outcome.reader.unwrap_or(fresh);
+        let outcome = feed(tally, rng, &state, tail, AMP_ROW);
+        drain(tally, rng, outcome.reader.unwrap_or(state));
+    }
+}
+
 pub fn by_chance(tally: &mut Tally, rng: &mut Rng) {
     if rng.percent(50) {
         whole_stream(tally, rng);
@@ -82,7 +127,7 @@ pub fn by_chance(tally: &mut Tally, rng: &mut Rng) {
     }
     let mut state = any_state(rng);
     for _ in 0..rng.between(1, 5) {
-        let size = rng.pick(&[0, 1, 1, 2, 70, 75, 76, 80, 140]);
+        let size = rng.pick(&[0, 1, 1, 2, 38, 39, 40, 70, 75, 76, 80, 140]);
         let family = chance::family(rng);
         let offered = pieces::stream(family, rng, size);
         let size = size.min(offered.len());
@@ -111,10 +156,12 @@ fn any_state(rng: &mut Rng) -> AmpReader {
     }
 }
 
-/// Held bytes from a stream, from a report's first byte on, or just anything.
+/// Held bytes from a stream, from a report's or a message's first byte on, or
+/// just anything.
 fn any_held(rng: &mut Rng, family: Family) -> [u8; 133] {
     let mut bytes = match rng.below(4) {
         0 => (0..133).map(|_| rng.byte()).collect(),
+        1 if family == Family::Kpa => undecided_end(rng),
         1 => enclose_data(&sound_data(rng), rng.percent(70)),
         _ => pieces::stream(family, rng, 300),
     };

@@ -1,14 +1,16 @@
 //! Calls of the writers: every value at its ends and beyond, rows cut short,
 //! codes and kinds that are none, and outputs of every length.
 
+use crate::amp::*;
 use crate::calls::{Call, Lent};
 use crate::chance;
 use crate::frames::{frame_at_front, Family};
 use crate::held_against::Tally;
+use crate::kpa::{enclose_body, CARET, KNOWN};
 use crate::make_comma::RECORDED;
 use crate::pieces;
 use crate::rng::Rng;
-use crate::rows::{entry_of, Entry};
+use crate::rows::{code_of, entry_of, Entry};
 use crate::spe::{enclose_data, COMMA_LENGTH, HOST_MARK};
 
 /// Room for the longest frame that can be written, and more.
@@ -52,7 +54,38 @@ const LARGE: &[u32] = &[
     u32::MAX - 1,
 ];
 
-/// One row of each kind that has a writer.
+/// Codes of letters that are not listed: small letters, other letters, fewer,
+/// more, exchanged, with something before or behind.
+const LETTERS: &[u32] = &[
+    0x736E,
+    0x4E53,
+    0x53,
+    0x4E,
+    0x5000,
+    0x5057,
+    0x5357,
+    0x464C,
+    0x4655,
+    0x46_5400,
+    0x53_4E00,
+    0x53_4E41,
+    0x41_534E,
+    0x52_564D,
+    0x50_5745,
+    0x70_7766,
+    0x2000_534E,
+    0x8000_534E,
+    0x1_534E,
+    0x5050_5746,
+    0x5057_4600,
+    0x4853_4142,
+    0x4650,
+    0x4343_4343,
+    0x5346,
+];
+
+/// One row of each kind that has a writer, and of other letters, which have
+/// none.
 fn samples() -> Vec<Entry> {
     let data = b",20K,O,T,x,2,10,6t,3r,H,1998, 1.20,12.34,48.0,31.5, 31, 29,130,K,H,";
     let mut all = vec![
@@ -70,6 +103,26 @@ fn samples() -> Vec<Entry> {
         ]
         .map(|sentence| entry(sentence.as_bytes())),
     );
+    all.extend(
+        [
+            "^SN00022;",
+            "^RV01.23;",
+            "^PWF0750;",
+            "^PWI0047;",
+            "^PWR0000;",
+            "^PWD9999;",
+            "^FR14200;",
+            "^FQ07032;",
+            "^FS3;",
+            "^HS1;",
+            "^CC17-07-31T13:15:00;",
+            "^CC00-02-29T00:59:00;",
+            "^FT;",
+            "^PWF;",
+            "^RVM01.23;",
+        ]
+        .map(|message| entry(message.as_bytes())),
+    );
     all
 }
 
@@ -78,6 +131,7 @@ fn entry(frame: &[u8]) -> Entry {
     let family = match frame[0] {
         b'$' => Family::Alpha,
         HOST_MARK => Family::SpeCommands,
+        CARET => Family::Kpa,
         _ => Family::SpeReplies,
     };
     let (frame, _) = frame_at_front(family, frame).expect("a sample is good");
@@ -89,6 +143,54 @@ pub fn all(tally: &mut Tally, rng: &mut Rng) {
         all_values(tally, rng, &sample);
         all_rooms(tally, rng, &sample);
         all_codes(tally, rng, &sample);
+    }
+    all_letters(tally, rng);
+    all_days(tally, rng);
+}
+
+/// Every code of letters, listed or not, as a question and as a response with
+/// few or many values, or values of no use, and with an output that just fits.
+fn all_letters(tally: &mut Tally, rng: &mut Rng) {
+    let listed = KNOWN.iter().map(code_of);
+    for code in listed.chain(LETTERS.iter().copied()) {
+        for kind in [AMP_QUESTION, AMP_RESPONSE, AMP_OTHER, AMP_SENTENCE, AMP_ACK] {
+            for values in [
+                &[][..],
+                &[-1, i64::MIN],
+                &[0],
+                &[1],
+                &[6],
+                &[1, 2],
+                &[1, -1],
+                &[1, 2, 3, 4, 5],
+                &[1, 2, 3, 4, 5, 6],
+                &[1, 2, 3, 4, 5, 6, -7],
+                &[0x534E, 0, 0, 0, 0, 0, 0, 0, 0, 0],
+            ] {
+                for room in [ROOM, 4, 0] {
+                    ask(tally, rng, (kind, code), values, room);
+                }
+            }
+        }
+    }
+    for known in &KNOWN {
+        let question = enclose_body(known.letters.as_bytes());
+        for room in 0..=question.len() + 1 {
+            ask(tally, rng, (AMP_QUESTION, code_of(known)), &[], room);
+        }
+    }
+}
+
+/// Both ends of every month of leap and common years, with days, months and
+/// years that are none.
+fn all_days(tally: &mut Tally, rng: &mut Rng) {
+    for year in [-1, 0, 1, 16, 99, 100] {
+        for month in -1..=14 {
+            for day in (-1..=2).chain(27..=33) {
+                let values = [year, month, day, 23, 59, 59];
+                ask(tally, rng, (AMP_RESPONSE, AMP_CC), &values, ROOM);
+            }
+        }
     }
 }
 
@@ -154,13 +256,15 @@ pub fn by_chance(tally: &mut Tally, rng: &mut Rng) {
     match rng.below(30) {
         0 => entry.code = rng.below(256) as u32,
         1 => entry.code = chance::any_number(rng) as u32,
-        2 => entry.kind = rng.below(9) as u32,
+        2 => entry.kind = rng.below(11) as u32,
         3 => entry.kind = rng.pick(LARGE),
         4 | 5 => {
             let kept = rng.below(entry.values.len() + 1);
             entry.values.truncate(kept);
         }
         6..=8 => entry.values.push(rng.word() as i64),
+        9 => entry.code = code_of(&KNOWN[rng.below(KNOWN.len())]),
+        10 => entry.code = rng.pick(LETTERS),
         _ => {}
     }
     let near = (frame.len() + 2).saturating_sub(rng.below(6));

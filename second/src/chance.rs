@@ -4,7 +4,7 @@
 use crate::amp::AMP_ROW;
 use crate::frames::Family;
 use crate::rng::Rng;
-use crate::{make_comma, pieces};
+use crate::{make_comma, make_kpa, pieces};
 
 /// The families, and numbers that are none; some would be if only their last
 /// byte counted.
@@ -12,14 +12,18 @@ pub const FAMILY_NUMBERS: &[u32] = &[
     1,
     2,
     3,
-    0,
     4,
+    0,
     5,
+    6,
     0x31,
+    0x34,
     0xFF,
     0x101,
+    0x104,
     0x1_0002,
     0x8000_0003,
+    0x8000_0004,
     u32::MAX,
 ];
 
@@ -32,6 +36,8 @@ pub fn family(rng: &mut Rng) -> Family {
         Family::SpeReplies,
         Family::Alpha,
         Family::SpeCommands,
+        Family::Kpa,
+        Family::Kpa,
     ])
 }
 
@@ -73,8 +79,12 @@ pub fn list_places(rng: &mut Rng, room: usize) -> Vec<u32> {
 pub fn capture(rng: &mut Rng, family: Family) -> Vec<u8> {
     let length = rng.pick(&[0, 5, 60, 80, 160, 160, 300, 600]);
     let mut capture = pieces::stream(family, rng, length);
-    if family == Family::SpeReplies && rng.percent(25) {
-        capture.extend(make_comma::broken_comma(rng));
+    if rng.percent(25) {
+        match family {
+            Family::SpeReplies => capture.extend(make_comma::broken_comma(rng)),
+            Family::Kpa => capture.extend(make_kpa::any_long_start(rng)),
+            Family::Alpha | Family::SpeCommands => {}
+        }
     }
     if rng.percent(40) {
         let kept = rng.below(capture.len() + 1);

@@ -7,7 +7,7 @@ use std::sync::Mutex;
 use std::thread;
 use std::time::{Duration, Instant};
 
-use crate::frames::Family;
+use crate::frames::{Family, FAMILIES};
 use crate::generate::{self, What};
 use crate::report;
 use crate::run::{run, Outcome};
@@ -80,7 +80,7 @@ pub fn compare(settings: &Settings) -> i32 {
         .map(|seconds| began + Duration::from_secs(seconds));
     let mut agreed = 0;
     for what in [What::Capture, What::Script] {
-        for family in [Family::SpeReplies, Family::Alpha, Family::SpeCommands] {
+        for family in FAMILIES {
             let round = Round {
                 settings,
                 what,

@@ -1,6 +1,7 @@
 //! Cuts test streams into calls and so makes the scripts for `replay`.
 
 use crate::frames::{Family, LONGEST_INPUT};
+use crate::kpa::CARET;
 use crate::pieces;
 use crate::rng::Rng;
 use crate::spe::{AMPLIFIER_MARK, HOST_MARK};
@@ -8,8 +9,8 @@ use crate::spe::{AMPLIFIER_MARK, HOST_MARK};
 /// Call sizes at which something may change: none, one, around the marks, and
 /// around the longest frames.
 const SIZES: &[usize] = &[
-    0, 1, 1, 2, 3, 4, 5, 6, 7, 8, 12, 64, 73, 74, 75, 76, 77, 127, 128, 129, 132, 133, 134, 135,
-    150, 254, 255,
+    0, 1, 1, 2, 3, 4, 5, 6, 7, 8, 12, 38, 39, 40, 41, 64, 73, 74, 75, 76, 77, 127, 128, 129, 132,
+    133, 134, 135, 150, 254, 255,
 ];
 
 /// A script of roughly `length` bytes in one of several styles of cutting.
@@ -39,7 +40,8 @@ pub fn whole_stream(rng: &mut Rng, stream: &[u8]) -> Vec<u8> {
 }
 
 /// The frames of `pieces::ends`, each offered several times and each time cut
-/// in two at another place near where a report is decided or near its end.
+/// in two at another place near where a report or a message is decided at the
+/// latest, or near its end.
 pub fn cut_ends(family: Family, rng: &mut Rng) -> Vec<u8> {
     let mut script = Vec::new();
     for frame in pieces::ends(family, rng) {
@@ -47,7 +49,11 @@ pub fn cut_ends(family: Family, rng: &mut Rng) -> Vec<u8> {
             let near_end = frame.len() - rng.below(7).min(frame.len());
             // No call can offer more than 255 bytes.
             let longest = frame.len().min(255);
-            let cut = rng.pick(&[73, 74, 75, 76, near_end]).min(longest);
+            let cut = match family {
+                Family::Kpa => rng.pick(&[38, 39, 40, 41, near_end]),
+                _ => rng.pick(&[73, 74, 75, 76, near_end]),
+            };
+            let cut = cut.min(longest);
             push_offer(&mut script, b'o', &frame[..cut]);
             push_offer(&mut script, b'o', &frame[cut..]);
             let between = pieces::between_ends(family, rng);
@@ -112,11 +118,15 @@ fn cut_stream_with(rng: &mut Rng, stream: &[u8], thrown: usize) -> Vec<u8> {
     script
 }
 
-/// A size that ends a call where the next packet is about to be decided.
+/// A size that ends a call where the next frame is about to be decided.
 fn behind_next_mark(rng: &mut Rng, rest: &[u8]) -> usize {
-    let is_mark = |byte: &u8| [AMPLIFIER_MARK, HOST_MARK, b'$'].contains(byte);
+    let is_mark = |byte: &u8| [AMPLIFIER_MARK, HOST_MARK, b'$', CARET].contains(byte);
     let before = rest.iter().position(is_mark).unwrap_or(0);
-    (before + rng.pick(&[3, 4, 5, 6, 73, 74, 75, 76])).min(255)
+    let sizes: &[usize] = match rest.get(before) {
+        Some(&CARET) => &[1, 2, 3, 4, 38, 39, 40, 41],
+        _ => &[3, 4, 5, 6, 73, 74, 75, 76],
+    };
+    (before + rng.pick(sizes)).min(255)
 }
 
 /// The same short stream again and again, each time cut in two at another

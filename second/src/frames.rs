@@ -1,7 +1,7 @@
-//! The three families side by side: which frame begins at a place, whether a
+//! The four families side by side: which frame begins at a place, whether a
 //! start is undecided, and how a frame is shown.
 
-use crate::{alpha, spe};
+use crate::{alpha, kpa, spe};
 
 #[derive(Clone, Copy, PartialEq, Eq, Debug)]
 pub enum Family {
@@ -11,7 +11,16 @@ pub enum Family {
     Alpha,
     /// Family 3: packets from the host to the SPE amplifier.
     SpeCommands,
+    /// Family 4: messages to and from the KPA1500.
+    Kpa,
 }
+
+pub const FAMILIES: [Family; 4] = [
+    Family::SpeReplies,
+    Family::Alpha,
+    Family::SpeCommands,
+    Family::Kpa,
+];
 
 impl Family {
     /// The family named by an input's first byte.
@@ -20,6 +29,7 @@ impl Family {
             b'1' => Some(Family::SpeReplies),
             b'2' => Some(Family::Alpha),
             b'3' => Some(Family::SpeCommands),
+            b'4' => Some(Family::Kpa),
             _ => None,
         }
     }
@@ -29,6 +39,7 @@ impl Family {
             Family::SpeReplies => b'1',
             Family::Alpha => b'2',
             Family::SpeCommands => b'3',
+            Family::Kpa => b'4',
         }
     }
 }
@@ -42,6 +53,7 @@ pub enum Frame {
     Status(spe::Status),
     Command(u8),
     Sentence(alpha::Sentence),
+    Message(kpa::Message),
 }
 
 /// The good frame that begins at the first of these bytes, with its length.
@@ -63,6 +75,10 @@ pub fn frame_at_front(family: Family, bytes: &[u8]) -> Option<(Frame, usize)> {
             let code = spe::command_at_front(bytes)?;
             Some((Frame::Command(code), spe::CODE_LENGTH))
         }
+        Family::Kpa => {
+            let (message, length) = kpa::message_at_front(bytes)?;
+            Some((Frame::Message(message), length))
+        }
     }
 }
 
@@ -77,6 +93,7 @@ pub fn start_is_undecided(family: Family, bytes: &[u8]) -> bool {
         ),
         Family::Alpha => alpha::start_is_undecided(bytes),
         Family::SpeCommands => spe::start_is_undecided(bytes, spe::HOST_MARK, &[spe::CODE_COUNT]),
+        Family::Kpa => kpa::start_is_undecided(bytes),
     }
 }
 
@@ -86,15 +103,22 @@ pub fn kind_text(frame: &Frame) -> String {
         Frame::Status(_) => "status".to_string(),
         Frame::Command(code) => format!("command {:02X}", code),
         Frame::Sentence(sentence) => format!("APA{:02}", sentence.number()),
+        Frame::Message(message) => String::from_utf8_lossy(message.letters()).into_owned(),
     }
 }
 
-/// The values of a record as words; none for a frame without a record.
+/// The values of a record as words; none for a frame without a record. A
+/// question has the sign for one.
 pub fn values(frame: &Frame) -> Vec<String> {
     match frame {
         Frame::Acknowledgement(_) | Frame::Command(_) => Vec::new(),
         Frame::Status(status) => status_values(status),
         Frame::Sentence(sentence) => sentence_values(sentence),
+        Frame::Message(kpa::Message::Question(_)) => vec!["?".to_string()],
+        Frame::Message(kpa::Message::Reply(_, numbers)) => {
+            numbers.iter().map(u32::to_string).collect()
+        }
+        Frame::Message(kpa::Message::Other(_)) => Vec::new(),
     }
 }
 
@@ -137,13 +161,14 @@ fn sentence_values(sentence: &alpha::Sentence) -> Vec<String> {
     }
 }
 
-/// The bytes the writer makes of a frame's record or code. An "other"
-/// sentence has neither, so there is nothing to write.
+/// The bytes the writer makes of a frame's record or code. An "other" has
+/// neither, so there is nothing to write.
 pub fn written(frame: &Frame) -> Option<Vec<u8>> {
     match frame {
         Frame::Acknowledgement(code) => Some(spe::write_code(spe::AMPLIFIER_MARK, *code)),
         Frame::Command(code) => Some(spe::write_code(spe::HOST_MARK, *code)),
         Frame::Status(status) => Some(spe::write_status(status)),
         Frame::Sentence(sentence) => alpha::write_sentence(sentence),
+        Frame::Message(message) => kpa::write_message(message),
     }
 }

@@ -141,12 +141,12 @@ fn tiny(what: What, family: Family, rng: &mut Rng) -> Vec<u8> {
 }
 
 fn with_bad_family(rng: &mut Rng, what: What, family: Family) -> Vec<u8> {
-    let mut input = vec![rng.pick(b"04\x01\x02\x03\x00\xFFaA $")];
+    let mut input = vec![rng.pick(b"05\x01\x02\x03\x04\x00\xFFaA $^")];
     input.extend(tiny(what, family, rng));
     input
 }
 
 /// Both refusals would fit; the bad family is named.
 fn with_bad_family_and_too_long(rng: &mut Rng) -> Vec<u8> {
-    vec![rng.pick(b"04\x01\x00"); LONGEST_INPUT + 2]
+    vec![rng.pick(b"05\x01\x00"); LONGEST_INPUT + 2]
 }

@@ -1,25 +1,42 @@
-//! A second, independent reader of SPE Expert and Alpha 9500 frames, to hold
-//! another program against: lister, replay of stream calls, generator of test
-//! inputs and comparison. See README.md.
+//! A second, independent reader of SPE Expert, Alpha 9500 and KPA1500 frames,
+//! to hold another program against: lister, replay of stream calls, generator
+//! of test inputs and comparison. See README.md.
 
 mod alpha;
+#[cfg(test)]
+#[path = "../../c/amp.rs"]
+mod amp;
+#[cfg(test)]
+mod answers;
+#[cfg(test)]
+#[allow(dead_code)]
+mod calls;
 #[cfg(test)]
 mod comma_tests;
 mod compare;
 mod cuts;
 mod frames;
 mod generate;
+mod kpa;
+#[cfg(test)]
+mod kpa_tests;
 mod listing;
 mod make_alpha;
 mod make_comma;
+mod make_kpa;
 mod make_spe;
 mod pieces;
 mod replay;
 mod report;
 mod rng;
+#[cfg(test)]
+mod row_tests;
+#[cfg(test)]
+mod rows;
 mod run;
 mod shrink;
 mod spe;
+mod spoil_kpa;
 mod stream;
 #[cfg(test)]
 mod tests;
@@ -30,7 +47,7 @@ use std::path::PathBuf;
 const USAGE: &str = "usage:
   second listing < INPUT
   second replay < INPUT
-  second generate capture|script 1|2|3 SEED INDEX
+  second generate capture|script 1|2|3|4 SEED INDEX
   second compare --listing PATH --replay PATH --seed N --count N --save PATH [--seconds N]";
 
 fn main() {

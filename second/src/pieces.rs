@@ -3,12 +3,13 @@
 //! inside others.
 
 use crate::alpha::{check_digits, enclose_payload};
-use crate::frames::Family;
+use crate::frames::{Family, FAMILIES};
+use crate::kpa::CARET;
 use crate::rng::Rng;
 use crate::spe::{check_bytes, enclose_data, needed_bytes, write_code};
 use crate::spe::{AMPLIFIER_MARK, BEHIND_CHECK, CODE_COUNT, HOST_MARK};
 use crate::spe::{COMMA_LENGTH, PLAIN_LENGTH, STATUS_COUNT, STATUS_DATA};
-use crate::{make_alpha, make_comma, make_spe};
+use crate::{make_alpha, make_comma, make_kpa, make_spe, spoil_kpa};
 
 /// A stream of at least `length` bytes, longer by no more than two pieces.
 pub fn stream(family: Family, rng: &mut Rng, length: usize) -> Vec<u8> {
@@ -36,6 +37,7 @@ pub fn catalogue(family: Family, rng: &mut Rng) -> Vec<u8> {
         Family::SpeReplies => make_spe::all_broken_replies(rng),
         Family::Alpha => make_alpha::all_broken_sentences(rng),
         Family::SpeCommands => make_spe::all_broken_commands(rng),
+        Family::Kpa => spoil_kpa::all_broken_messages(rng),
     };
     let mut bytes = every_code_or_number(family);
     for frame in broken {
@@ -49,20 +51,25 @@ pub fn catalogue(family: Family, rng: &mut Rng) -> Vec<u8> {
 
 /// Frames at whose ends a reader may slip, each for itself: whole, and cut
 /// before one of the last bytes with a sound frame right behind; of reports
-/// also whatever can go wrong around the comma.
+/// also whatever can go wrong around the comma, of messages also starts that
+/// wait as long as can be.
 pub fn ends(family: Family, rng: &mut Rng) -> Vec<Vec<u8>> {
     let mut all = Vec::new();
     for missing in 0..6 {
         for _ in 0..2 {
             let mut frame = sound_frame(family, rng);
-            frame.truncate(frame.len() - missing);
+            frame.truncate(frame.len().saturating_sub(missing));
             frame.extend(sound_frame(family, rng));
             all.push(frame);
         }
     }
-    if family == Family::SpeReplies {
-        all.push(make_comma::RECORDED.to_vec());
-        all.extend(make_comma::all_broken_commas(rng));
+    match family {
+        Family::SpeReplies => {
+            all.push(make_comma::RECORDED.to_vec());
+            all.extend(make_comma::all_broken_commas(rng));
+        }
+        Family::Kpa => all.extend(make_kpa::all_long_starts(rng)),
+        Family::Alpha | Family::SpeCommands => {}
     }
     all
 }
@@ -92,17 +99,18 @@ pub fn between_ends(family: Family, rng: &mut Rng) -> Vec<u8> {
     }
 }
 
-/// Each of the 256 possible codes, or each sentence number with no fields.
+/// Each of the 256 possible codes, or each sentence number with no fields, or
+/// each pair of letters.
 fn every_code_or_number(family: Family) -> Vec<u8> {
-    if family == Family::Alpha {
-        let numbers = 0..100;
-        return numbers
+    match family {
+        Family::Alpha => (0..100)
             .flat_map(|number| enclose_payload(format!("APA{:02}", number).as_bytes()))
-            .collect();
+            .collect(),
+        Family::Kpa => make_kpa::letters_and_days(),
+        Family::SpeReplies | Family::SpeCommands => (0..=255)
+            .flat_map(|code| write_code(mark_of(family), code))
+            .collect(),
     }
-    (0..=255)
-        .flat_map(|code| write_code(mark_of(family), code))
-        .collect()
 }
 
 /// A sound frame again and again, one of its bytes taking every value in
@@ -121,9 +129,12 @@ pub fn byte_sweep(family: Family, rng: &mut Rng) -> Vec<u8> {
 }
 
 /// Makes the check of a frame right again after a change at `place`, unless
-/// the change was outside of what is checked.
+/// the change was outside of what is checked. Messages have no check.
 fn reseal(family: Family, frame: &mut [u8], place: usize) {
     let length = frame.len();
+    if family == Family::Kpa {
+        return;
+    }
     if family == Family::Alpha {
         if (1..length - 5).contains(&place) {
             let digits = check_digits(&frame[1..length - 5]);
@@ -145,6 +156,7 @@ pub fn sound_frame(family: Family, rng: &mut Rng) -> Vec<u8> {
         Family::SpeReplies => make_spe::sound_report(rng),
         Family::Alpha => make_alpha::sound_sentence(rng),
         Family::SpeCommands => make_spe::sound_command(rng),
+        Family::Kpa => make_kpa::sound_message(rng),
     }
 }
 
@@ -153,6 +165,7 @@ fn broken_frame(family: Family, rng: &mut Rng) -> Vec<u8> {
         Family::SpeReplies => make_spe::broken_reply(rng),
         Family::Alpha => make_alpha::broken_sentence(rng),
         Family::SpeCommands => make_spe::broken_command(rng),
+        Family::Kpa => spoil_kpa::broken_message(rng),
     }
 }
 
@@ -176,6 +189,7 @@ fn mark_of(family: Family) -> u8 {
         Family::SpeReplies => AMPLIFIER_MARK,
         Family::Alpha => b'$',
         Family::SpeCommands => HOST_MARK,
+        Family::Kpa => CARET,
     }
 }
 
@@ -204,11 +218,13 @@ fn changed_and_resealed(family: Family, rng: &mut Rng) -> Vec<u8> {
             let code = rng.byte();
             vec![HOST_MARK, HOST_MARK, HOST_MARK, CODE_COUNT, code, code]
         }
+        Family::Kpa => spoil_kpa::changed_message(rng),
     }
 }
 
 /// The trouble of the evening in standby: a wrong count makes sound frames
-/// look like contents. A sentence has no count; there its star is struck.
+/// look like contents. A sentence has no count; there its star is struck, and
+/// of a message the semicolon.
 fn click_in_length(family: Family, rng: &mut Rng) -> Vec<u8> {
     let mut frame = sound_frame(family, rng);
     let counts = [
@@ -221,14 +237,15 @@ fn click_in_length(family: Family, rng: &mut Rng) -> Vec<u8> {
         0x44,
         0xFF,
     ];
-    let place = if family == Family::Alpha {
-        frame.len() - 5
-    } else {
-        3
+    let place = match family {
+        Family::Alpha => frame.len() - 5,
+        Family::Kpa => frame.len() - 1,
+        Family::SpeReplies | Family::SpeCommands => 3,
     };
     frame[place] = match family {
         Family::Alpha => rng.pick(b"+, \x0A\x2B\xAA"),
-        _ => rng.pick(&counts),
+        Family::Kpa => rng.pick(b":3, \x0A\x1B\xBB"),
+        Family::SpeReplies | Family::SpeCommands => rng.pick(&counts),
     };
     for _ in 0..rng.between(1, 4) {
         frame.extend(sound_frame(family, rng));
@@ -252,6 +269,8 @@ fn telling_byte(family: Family, rng: &mut Rng) -> u8 {
         b'*',
         b',',
         b' ',
+        b'^',
+        b';',
         any,
     ])
 }
@@ -269,13 +288,15 @@ fn rubbish(family: Family, rng: &mut Rng) -> Vec<u8> {
 fn run(rng: &mut Rng) -> Vec<u8> {
     let random = rng.between(1, 300);
     let length = rng.pick(&[
-        2, 3, 4, 5, 6, 7, 73, 74, 75, 76, 77, 128, 129, 133, 134, 135, random,
+        2, 3, 4, 5, 6, 7, 38, 39, 40, 41, 73, 74, 75, 76, 77, 128, 129, 133, 134, 135, random,
     ]);
     let byte = rng.pick(&[
         AMPLIFIER_MARK,
         HOST_MARK,
         b'$',
         b'*',
+        b'^',
+        b';',
         0x00,
         b'A',
         b' ',
@@ -288,6 +309,7 @@ fn frame_inside_frame(family: Family, rng: &mut Rng) -> Vec<u8> {
     match (family, rng.below(4)) {
         (Family::SpeReplies, 0 | 1) => frames_in_report_data(rng),
         (Family::Alpha, 0) => half_end_then_sentence(rng),
+        (Family::Kpa, 0 | 1) => long_start_then_message(rng),
         (_, 2) => begun_many_times(family, rng),
         _ => {
             // The outer frame breaks off anywhere and the inner one begins.
@@ -335,10 +357,20 @@ fn half_end_then_sentence(rng: &mut Rng) -> Vec<u8> {
     bytes
 }
 
+/// A start that waits nearly as long as it may or longer, then a message.
+fn long_start_then_message(rng: &mut Rng) -> Vec<u8> {
+    let mut bytes = make_kpa::any_long_start(rng);
+    bytes.extend(make_kpa::sound_message(rng));
+    bytes
+}
+
 /// The end of a stream at which a start is still undecided. In a report's
 /// place whole acknowledgements may stand behind that start; only the close
 /// brings them out. A comma at its place allows one byte more.
 fn undecided_end(family: Family, rng: &mut Rng) -> Vec<u8> {
+    if family == Family::Kpa && rng.percent(80) {
+        return make_kpa::undecided_end(rng);
+    }
     if family != Family::SpeReplies || rng.percent(20) {
         return shortened_frame(family, rng);
     }
@@ -381,8 +413,7 @@ fn shortened_frame(family: Family, rng: &mut Rng) -> Vec<u8> {
 
 /// A sound frame of a family that is not being read.
 fn foreign_frame(family: Family, rng: &mut Rng) -> Vec<u8> {
-    let others = [Family::SpeReplies, Family::Alpha, Family::SpeCommands];
-    let foreign = rng.pick(&others);
+    let foreign = rng.pick(&FAMILIES);
     if foreign == family {
         return Vec::new();
     }

@@ -4,6 +4,7 @@
 use crate::alpha::{self, Sentence, WIDTHS_02, WIDTHS_03};
 use crate::amp::*;
 use crate::frames::Frame;
+use crate::kpa::{Known, Message, KNOWN};
 use crate::spe::{self, Id, Status, COMMAND_CODES, DECIMALS, STATUS_CODE};
 
 /// Kind, code and values of a frame.
@@ -25,16 +26,50 @@ pub struct Found {
 
 pub fn entry_of(frame: &Frame) -> Entry {
     let (kind, code, values) = match frame {
-        Frame::Acknowledgement(code) => (AMP_ACK, *code, Vec::new()),
-        Frame::Command(code) => (AMP_COMMAND, *code, Vec::new()),
+        Frame::Acknowledgement(code) => (AMP_ACK, u32::from(*code), Vec::new()),
+        Frame::Command(code) => (AMP_COMMAND, u32::from(*code), Vec::new()),
         Frame::Status(status) => (AMP_STATUS, 0, status_values(status)),
-        Frame::Sentence(sentence) => (AMP_SENTENCE, sentence.number(), sentence_values(sentence)),
+        Frame::Sentence(sentence) => {
+            let number = u32::from(sentence.number());
+            (AMP_SENTENCE, number, sentence_values(sentence))
+        }
+        Frame::Message(message) => return message_entry(message),
     };
-    Entry {
-        kind,
-        code: u32::from(code),
-        values,
-    }
+    Entry { kind, code, values }
+}
+
+fn message_entry(message: &Message) -> Entry {
+    let (kind, code, values) = match message {
+        Message::Question(known) => (AMP_QUESTION, code_of(known), Vec::new()),
+        Message::Reply(known, numbers) => {
+            let values = numbers.iter().map(|number| i64::from(*number)).collect();
+            (AMP_RESPONSE, code_of(known), values)
+        }
+        Message::Other(letters) => (AMP_OTHER, 0, letter_values(letters)),
+    };
+    Entry { kind, code, values }
+}
+
+/// Letters as one number, the first the highest.
+fn letters_number(letters: &[u8]) -> u32 {
+    letters
+        .iter()
+        .fold(0, |number, letter| number << 8 | u32::from(*letter))
+}
+
+pub fn code_of(known: &Known) -> u32 {
+    letters_number(known.letters.as_bytes())
+}
+
+/// Four letters to a value, and always as many values as the most letters
+/// need.
+fn letter_values(letters: &[u8]) -> Vec<i64> {
+    let mut values: Vec<i64> = letters
+        .chunks(4)
+        .map(|four| i64::from(letters_number(four)))
+        .collect();
+    values.resize(AMP_OTHER_VALUES, 0);
+    values
 }
 
 /// The whole row of a frame; how long it is, is also how long it has to be.
@@ -101,7 +136,8 @@ fn sentence_values(sentence: &Sentence) -> Vec<i64> {
 // ---------------------------------------------------------- from a row
 
 /// The frame that kind, code and values stand for, or the number of the
-/// refusal. Only codes of packets have a number of their own.
+/// refusal. Only codes of packets have a number of their own. Other letters
+/// have no writer, so their rows are refused like those of no kind.
 pub fn frame_of(kind: u32, code: u32, values: &[i64]) -> Result<Frame, u32> {
     match kind {
         AMP_ACK => packet_code(code)
@@ -113,6 +149,10 @@ pub fn frame_of(kind: u32, code: u32, values: &[i64]) -> Result<Frame, u32> {
         AMP_STATUS => status_of(values).map(Frame::Status).ok_or(AMP_NO_RECORD),
         AMP_SENTENCE => sentence_of(code, values)
             .map(Frame::Sentence)
+            .ok_or(AMP_NO_RECORD),
+        AMP_QUESTION => question_of(code).map(Frame::Message).ok_or(AMP_NO_RECORD),
+        AMP_RESPONSE => reply_of(code, values)
+            .map(Frame::Message)
             .ok_or(AMP_NO_RECORD),
         _ => Err(AMP_NO_RECORD),
     }
@@ -179,6 +219,30 @@ fn highest_number(id: Id, place: usize) -> i64 {
 
 fn nines(digits: usize) -> i64 {
     10i64.pow(digits as u32) - 1
+}
+
+fn known_of(code: u32) -> Option<&'static Known> {
+    KNOWN.iter().find(|known| code_of(known) == code)
+}
+
+fn question_of(code: u32) -> Option<Message> {
+    known_of(code)
+        .filter(|known| known.is_asked())
+        .map(Message::Question)
+}
+
+fn reply_of(code: u32, values: &[i64]) -> Option<Message> {
+    let known = known_of(code)?;
+    let values = values.get(..known.fields.len())?;
+    let mut numbers = Vec::new();
+    for ((_, digits), value) in known.fields.iter().zip(values) {
+        numbers.push(within(*value, 0, nines(*digits))? as u32);
+    }
+    if known.allows(&numbers) {
+        Some(Message::Reply(known, numbers))
+    } else {
+        None
+    }
 }
 
 fn sentence_of(code: u32, values: &[i64]) -> Option<Sentence> {

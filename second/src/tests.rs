@@ -2,16 +2,15 @@
 //! the generator held against the rules. Built with `rustc --test`.
 
 use crate::alpha::{check_digits, enclose_payload};
-use crate::frames::{frame_at_front, values, written, Family};
+use crate::frames::{frame_at_front, values, written, Family, FAMILIES};
 use crate::generate::{self, What};
 use crate::listing::{list_frames, listing};
 use crate::replay::replay;
 use crate::rng::Rng;
 use crate::spe::{check_bytes, enclose_data};
 use crate::stream::{Answer, Reader};
-use crate::{make_alpha, make_spe, pieces};
+use crate::{make_alpha, make_spe, pieces, spoil_kpa};
 
-const FAMILIES: [Family; 3] = [Family::SpeReplies, Family::Alpha, Family::SpeCommands];
 pub const CASE_2: &[u8] = b"\xAA\xAA\xAA\x01\x0D\x0D\xAA\xAA\xAA\x01\x09\x09";
 pub const CASE_5: &[u8] = b",20K,S,R,x,2,03,2t,0r,M,0000, 0.00, 0.00, 0.0, 0.0, 31, 29, 30,N,N,";
 const CASE_7: &[u8] = b"$APA05,11,18,1B,34,00,2A,01*A844";
@@ -152,7 +151,7 @@ fn bench_cases_10_to_13() {
 fn refusals_of_the_programs() {
     for program in [listing, replay] {
         assert_eq!(program(b""), "refused 1\n");
-        assert_eq!(program(b"4c"), "refused 1\n");
+        assert_eq!(program(b"5c"), "refused 1\n");
         assert_eq!(program(&[b'0'; 65_538]), "refused 1\n");
         assert_eq!(program(&[b'1'; 65_538]), "refused 7\n");
         assert!(program(&[b'1'; 65_537]) != "refused 7\n");
@@ -254,6 +253,7 @@ fn broken_frames_are_not_good() {
             (Family::SpeReplies, make_spe::all_broken_replies(&mut rng)),
             (Family::Alpha, make_alpha::all_broken_sentences(&mut rng)),
             (Family::SpeCommands, make_spe::all_broken_commands(&mut rng)),
+            (Family::Kpa, spoil_kpa::all_broken_messages(&mut rng)),
         ] {
             for frame in broken {
                 assert!(!good(family, &frame), "{}", frame.escape_ascii());
@@ -267,7 +267,7 @@ fn broken_frames_are_not_good() {
 #[test]
 fn stream_and_lister_find_the_same() {
     let mut rng = Rng::from_numbers(&[3]);
-    for (family, reach) in FAMILIES.iter().zip([76, 134, 6]) {
+    for (family, reach) in FAMILIES.iter().zip([76, 134, 6, 40]) {
         for index in 8..600 {
             let input = generate::input(What::Capture, *family, 7, index);
             let capture = input.get(1..).unwrap_or(&[]);

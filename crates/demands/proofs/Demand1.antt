@@ -2,7 +2,7 @@
 -- order themselves, in a clause `says`. Here is the reader of one frame, whose number 8 speaks of the good frames of demand 2;
 -- the numbers of the writers; and that a list is as before where it is refused. Each is about whatever meets a promise.
 -- Assumes nothing.
-use Prim.Native.Nat.{ℕ}
+use Prim.Native.Nat.{ℕ, _≤_}
 use mathlib.Core.Path.{_≡_, refl, sym, ap, _∙_}
 use mathlib.Core.Bool.{Bool, true, false, _&&_, cond, not}
 use mathlib.Core.List.{List, [], _∷_, _++_}
@@ -12,9 +12,12 @@ use lib.Dec.{leb}
 use lib.IntN.{pos}
 use lib.ListN.{length, drop}
 use Rattle.rules.specs.Answers.{aFrame, lengthWritten, Says, no, yes, noFamily, noCode, noRecord, noRoom, notGood, kindOf, values, said, saidToWrite, valuesOr8, readOne, isFamily, allowed, bytesOf, notAllowed, Reads, Writes}
+use Rattle.rules.specs.declared.Message as MessageType
+use Rattle.rules.specs.declared.Message.the-variants.{Question, Number, Version, Clock, Tune, OtherLetters}
 use Rattle.rules.specs.declared.Frame.{Frame}
+use Rattle.rules.specs.declared.Frame.the-variants.{Message}
 use Rattle.rules.specs.declared.Kind.{Kind}
-use Rattle.rules.specs.declared.Kind.the-variants.{OfAck, OfStatus, OfCommand, OfSentence}
+use Rattle.rules.specs.declared.Kind.the-variants.{OfAck, OfStatus, OfCommand, OfSentence, OfQuestion, OfResponse, OfLetters}
 use Rattle.rules.specs.declared.Reading.{Reading}
 use Rattle.rules.specs.declared.Written.{Written}
 use Rattle.stream_rules.specs.Lister.{frames, startsOf, fits, tooLong, Lists}
@@ -44,22 +47,29 @@ code-2 c = (refl, refl)
 pub record-3 : (n : ℕ) → (notAllowed OfStatus ≡ noRecord) × (notAllowed (OfSentence n) ≡ noRecord)
 record-3 n = (refl, refl)
 
+-- (a message is a record, whatever its kind)
+pub message-3 : (m : MessageType.Message) → notAllowed (kindOf (Message m)) ≡ noRecord
+message-3 (Question n) = refl
+message-3 (Number n k) = refl
+message-3 (Version a b) = refl
+message-3 (Clock c) = refl
+message-3 Tune = refl
+message-3 (OtherLetters w) = refl
+
 -- what tells a refusal and its number apart: 0 for none
 abbrev number : Says → ℕ
 number (no n) = n
 number (yes k vs) = 0
 
-not-4 : (k : Kind) → notAllowed k ≡ noRoom → ⊥
-not-4 (OfAck c) e = omega (arith, e)
-not-4 OfStatus e = omega (arith, e)
-not-4 (OfCommand c) e = omega (arith, e)
-not-4 (OfSentence n) e = omega (arith, e)
-
-not-0 : (k : Kind) → notAllowed k ≡ 0 → ⊥
-not-0 (OfAck c) e = omega (arith, e)
-not-0 OfStatus e = omega (arith, e)
-not-0 (OfCommand c) e = omega (arith, e)
-not-0 (OfSentence n) e = omega (arith, e)
+-- so it is neither 4 nor none
+two-or-three : (k : Kind) → (noCode ≤ notAllowed k) × (notAllowed k ≤ noRecord)
+two-or-three (OfAck c) = omega arith
+two-or-three OfStatus = omega arith
+two-or-three (OfCommand c) = omega arith
+two-or-three (OfSentence n) = omega arith
+two-or-three (OfQuestion n) = omega arith
+two-or-three (OfResponse n) = omega arith
+two-or-three (OfLetters w) = omega arith
 
 -- It is given exactly where the code or record is not allowed.
 pub write-no : (f : Frame) (out : List ℕ) (answer : Written) (after : List ℕ) → Writes (allowed f) (notAllowed (kindOf f)) (bytesOf f) out answer after
@@ -69,8 +79,8 @@ write-no f out answer after w = (λ e. back (allowed f) (leb (length (bytesOf f)
     back : (a room : Bool) → cond (not a) (no (notAllowed (kindOf f))) (cond (not room) (no noRoom) (yes lengthWritten (pos (length (bytesOf f)) ∷ []))) ≡ no (notAllowed (kindOf f))
         → a ≡ false
     back false room e = refl
-    back true false e = absurd (not-4 (kindOf f) (sym (ap number e)))
-    back true true e = absurd (not-0 (kindOf f) (sym (ap number e)))
+    back true false e = absurd (omega (arith, two-or-three (kindOf f), ap number e))
+    back true true e = absurd (omega (arith, two-or-three (kindOf f), ap number e))
 
 -- A lister that refuses leaves the list as it was.
 pub list-as-before : (family : ℕ) (capture out : List ℕ) (n : ℕ) (after : List ℕ) → Lists family capture out (Refused n) after → after ≡ out

@@ -1,5 +1,6 @@
 -- Demand 2, over all kinds of frames: reading is exact, what is written reads back, and what is read and written again is
--- the same exactly where it stood in the writer's form. The families' own theorems stand in `Spe` and `Alpha`.
+-- the same exactly where it stood in the writer's form. The families' own theorems stand in `Spe`, `Alpha`,
+-- `MessageReading` and `Messages`.
 -- Assumes nothing.
 use Prim.Native.Nat.{ℕ, _≤_}
 use mathlib.Core.Path.{_≡_, refl, sym, ap, subst, _∙_}
@@ -11,20 +12,21 @@ use borrow.Author.Tests.{eqb-true, le-leb}
 use lib.Dec.{eqb, leb}
 use lib.ListN.{length, take, drop, getD}
 use lib.Seq.{take-append-seam}
-use Rattle.rules.specs.Answers.{readOne, noFamily, notGood, noRoom, kindOf, familyOf, allowed, bytesOf, hasWriter, notAllowed, Writes}
+use Rattle.rules.specs.Answers.{readOne, noFamily, noRoom, kindOf, familyOf, allowed, bytesOf, hasWriter, notAllowed, Writes}
 use Rattle.rules.specs.Form.{inForm}
 use Rattle.rules.specs.declared.Frame.{Frame}
-use Rattle.rules.specs.declared.Frame.the-variants.{Ack, Status, Command, Apa02, Apa03, Apa05, Other}
-use Rattle.rules.specs.declared.Kind.{Kind}
-use Rattle.rules.specs.declared.Kind.the-variants.{OfAck, OfStatus, OfCommand, OfSentence}
+use Rattle.rules.specs.declared.Frame.the-variants.{Ack, Status, Command, Apa02, Apa03, Apa05, Other, Message}
 use Rattle.rules.specs.declared.Reading.{Reading}
 use Rattle.rules.specs.declared.Reading.the-variants.{Good, Refused}
 use Rattle.rules.specs.declared.Written.{Written}
 use Rattle.rules.specs.declared.Written.the-variants.{Length, Refused as NotWritten}
 use Rattle.frame_laws.proofs.Bytes.{answer}
 use Rattle.frame_laws.proofs.Exact.{IsFrame}
+use Rattle.frame_laws.proofs.Reading.{ReadsAs, message-family}
 use Rattle.frame_laws.proofs.Spe.{Answer1, Answer3, answer-1, answer-3, ack-exact, status-exact, command-exact, ack-back, command-back, status-back, family1-allowed, family3-allowed, family1-again, family3-again}
 use Rattle.frame_laws.proofs.Alpha.{family2-exact, family2-back, family2-allowed, family2-again}
+use Rattle.frame_laws.proofs.MessageReading.{family4-exact}
+use Rattle.frame_laws.proofs.Messages.{family4-back, family4-allowed, family4-again}
 
 -- These bytes are, as a whole, this frame of this family, by the definitions.
 abbrev pub IsOne : ℕ → List ℕ → Frame → Type 0
@@ -35,6 +37,7 @@ data Which (family : ℕ) (bs : List ℕ) : Type 0 where
   first : family ≡ 1 → Which family bs
   second : family ≡ 2 → Which family bs
   third : family ≡ 3 → Which family bs
+  fourth : family ≡ 4 → Which family bs
   none : readOne family bs ≡ Refused noFamily → Which family bs
 
 which : (family : ℕ) (bs : List ℕ) → Which family bs
@@ -48,44 +51,34 @@ which family bs =
     (λ (b : eqb family 2 ≡ false).
     ⊎-elim
     (λ (c : eqb family 3 ≡ true). third (eqb-true family 3 c))
-    (λ (c : eqb family 3 ≡ false). none (rw (a, b, c)))
+    (λ (c : eqb family 3 ≡ false).
+    ⊎-elim
+    (λ (d : eqb family 4 ≡ true). fourth (eqb-true family 4 d))
+    (λ (d : eqb family 4 ≡ false). none (rw (a, b, c, d)))
+    (answer (eqb family 4)))
     (answer (eqb family 3)))
     (answer (eqb family 2)))
     (answer (eqb family 1))
 
--- what an answer shows of its frame
-abbrev familyRead : Reading → ℕ
-familyRead (Good f) = familyOf (kindOf f)
-familyRead (Refused n) = 0
-
-some-family : (k : Kind) → familyOf k ≡ 0 → ⊥
-some-family (OfAck c) e = omega arith
-some-family OfStatus e = omega arith
-some-family (OfCommand c) e = omega arith
-some-family (OfSentence n) e = omega arith
-
+-- an answer is not both a refusal and a frame
 refused-no-frame : (r : Reading) (n : ℕ) (f : Frame) → r ≡ Refused n → r ≡ Good f → ⊥
-refused-no-frame r n f p q = some-family (kindOf f) (ap familyRead (sym q ∙ p))
+refused-no-frame r n f p q = let z : _≡_ {A = ℕ} 0 1 = cc in omega arith
 
--- What an answer tells of the bytes: a frame, that it is one of this family and that they are it.
-abbrev ReadsAs : List ℕ → ℕ → Reading → Type 0
-ReadsAs bs n (Good f) = (familyOf (kindOf f) ≡ n) × IsFrame bs f
-ReadsAs bs n (Refused m) = Unit
-
-tells-1 : (bs : List ℕ) → ReadsAs bs 1 (readOne 1 bs)
+-- What the answers of families 1 and 3 tell of the bytes.
+tells-1 : (bs : List ℕ) → ReadsAs 1 bs (readOne 1 bs)
 tells-1 bs = case (answer-1 bs)
   where
-    case : Answer1 bs (readOne 1 bs) → ReadsAs bs 1 (readOne 1 bs)
+    case : Answer1 bs (readOne 1 bs) → ReadsAs 1 bs (readOne 1 bs)
     case (Answer1.an-ack t e) = rw e (refl, ack-exact bs (getD bs 4 0) .0 e)
     case (Answer1.a-report t e) = rw e (refl, (t, refl))
-    case (Answer1.neither t u e) = rw e tt
+    case (Answer1.neither t u e) = rw e refl
 
-tells-3 : (bs : List ℕ) → ReadsAs bs 3 (readOne 3 bs)
+tells-3 : (bs : List ℕ) → ReadsAs 3 bs (readOne 3 bs)
 tells-3 bs = case (answer-3 bs)
   where
-    case : Answer3 bs (readOne 3 bs) → ReadsAs bs 3 (readOne 3 bs)
+    case : Answer3 bs (readOne 3 bs) → ReadsAs 3 bs (readOne 3 bs)
     case (Answer3.a-command t e) = rw e (refl, command-exact bs (getD bs 4 0) .0 e)
-    case (Answer3.none t e) = rw e tt
+    case (Answer3.none t e) = rw e refl
 
 -- 1. A list of bytes is read as a frame exactly when it is that frame by the definitions,
 pub exact : (family : ℕ) (bs : List ℕ) (f : Frame) → (readOne family bs ≡ Good f) ↔ IsOne family bs f
@@ -94,13 +87,14 @@ exact family bs f = (λ h. there h (which family bs), λ i. back-again f (i .0) 
     at : (n : ℕ) → readOne family bs ≡ Good f → family ≡ n → readOne n bs ≡ Good f
     at n h e = subst (λ (m : ℕ). readOne m bs ≡ Good f) e h
 
-    is-one : (n : ℕ) → family ≡ n → ReadsAs bs n (Good f) → IsOne family bs f
+    is-one : (n : ℕ) → family ≡ n → ReadsAs n bs (Good f) → IsOne family bs f
     is-one n e told = (e ∙ sym (told .0), told .1)
 
     there : readOne family bs ≡ Good f → Which family bs → IsOne family bs f
-    there h (first e) = is-one 1 e (subst (ReadsAs bs 1) (at 1 h e) (tells-1 bs))
+    there h (first e) = is-one 1 e (subst (ReadsAs 1 bs) (at 1 h e) (tells-1 bs))
     there h (second e) = is-one 2 e (family2-exact bs f .0 (at 2 h e))
-    there h (third e) = is-one 3 e (subst (ReadsAs bs 3) (at 3 h e) (tells-3 bs))
+    there h (third e) = is-one 3 e (subst (ReadsAs 3 bs) (at 3 h e) (tells-3 bs))
+    there h (fourth e) = is-one 4 e (family4-exact bs f .0 (at 4 h e))
     there h (none e) = absurd (refused-no-frame (readOne family bs) noFamily f e h)
 
     back-again : (k : Frame) → family ≡ familyOf (kindOf k) → IsFrame bs k → readOne family bs ≡ Good k
@@ -111,6 +105,7 @@ exact family bs f = (λ h. there h (which family bs), λ i. back-again f (i .0) 
     back-again (Apa03 r) e i = rw e (family2-exact bs (Apa03 r) .1 (refl, i))
     back-again (Apa05 r) e i = rw e (family2-exact bs (Apa05 r) .1 (refl, i))
     back-again (Other n) e i = rw e (family2-exact bs (Other n) .1 (refl, i))
+    back-again (Message m) e i = rw (e, message-family m) (family4-exact bs (Message m) .1 (message-family m, i))
 
 -- and bytes that are no frame are refused: nothing else is read.
 pub nothing-else : (family : ℕ) (bs : List ℕ) → ((f : Frame) → IsOne family bs f → ⊥) → (n : ℕ) × (readOne family bs ≡ Refused n)
@@ -130,6 +125,7 @@ reads-back (Apa02 r) e = family2-back (Apa02 r) refl e
 reads-back (Apa03 r) e = family2-back (Apa03 r) refl e
 reads-back (Apa05 r) e = family2-back (Apa05 r) refl e
 reads-back (Other n) e = absurd (false≢true e)
+reads-back (Message m) e = rw (message-family m) (family4-back (Message m) (message-family m) e)
 
 -- What is read and has a writer is allowed,
 module _ (family : ℕ) (bs : List ℕ) (f : Frame) (h : readOne family bs ≡ Good f) (writer : hasWriter f ≡ true) where
@@ -143,6 +139,7 @@ module _ (family : ℕ) (bs : List ℕ) (f : Frame) (h : readOne family bs ≡ G
       case (first e) = family1-allowed bs f (at 1 e)
       case (second e) = family2-allowed bs f (at 2 e) writer
       case (third e) = family3-allowed bs f (at 3 e)
+      case (fourth e) = family4-allowed bs f (at 4 e) writer
       case (none e) = absurd (refused-no-frame (readOne family bs) noFamily f e h)
 
   -- 3. and, read and written again, it gives its own bytes if, and only if, its fields stood in the writer's form.
@@ -156,6 +153,7 @@ module _ (family : ℕ) (bs : List ℕ) (f : Frame) (h : readOne family bs ≡ G
       case (first e) = family1-again bs f (at 1 e)
       case (second e) = family2-again bs f (at 2 e) writer
       case (third e) = family3-again bs f (at 3 e)
+      case (fourth e) = family4-again bs f (at 4 e) writer
       case (none e) = absurd (refused-no-frame (readOne family bs) noFamily f e h)
 
 -- The same through the statements of the writers, whatever meets them. With a frame that is allowed and room for it, its

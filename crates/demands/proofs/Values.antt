@@ -11,7 +11,10 @@ use Rattle.rules.specs.declared.Status as StatusType
 use Rattle.rules.specs.declared.Sentence02.{Sentence02}
 use Rattle.rules.specs.declared.Sentence03.{Sentence03}
 use Rattle.rules.specs.declared.Sentence05.{Sentence05}
-use Rattle.rules.specs.declared.Frame.the-variants.{Status, Apa02, Apa03, Apa05}
+use Rattle.rules.specs.declared.Clock as ClockType
+use Rattle.rules.specs.declared.Letters.{Letters}
+use Rattle.rules.specs.declared.Message.the-variants.{Number, Version, Clock, OtherLetters}
+use Rattle.rules.specs.declared.Frame.the-variants.{Status, Apa02, Apa03, Apa05, Message}
 
 -- the value at a place, as it stands and as the number that it is in all fields but a temperature
 abbrev value : ℕ → List ℤ → ℤ
@@ -94,4 +97,37 @@ told-05 s t e =
       wtime = ap (number 8) e i;
       tcmd = ap (number 9) e i;
       lcmd = ap (number 10) e i;
+    }
+
+-- Of a message: its number, the two of its version, its clock, and the ten that hold letters that are not listed.
+pub number-told : (n k j : ℕ) → values (Message (Number n k)) ≡ values (Message (Number n j)) → k ≡ j
+number-told n k j e = ap (number 0) e
+
+pub version-told : (a b c d : ℕ) → values (Message (Version a b)) ≡ values (Message (Version c d)) → (a ≡ c) × (b ≡ d)
+version-told a b c d e = (ap (number 0) e, ap (number 1) e)
+
+pub clock-told : (c d : ClockType.Clock) → values (Message (Clock c)) ≡ values (Message (Clock d)) → c ≡ d
+clock-told c d e =
+    λ i. record {
+      year = ap (number 0) e i;
+      month = ap (number 1) e i;
+      day = ap (number 2) e i;
+      hour = ap (number 3) e i;
+      minute = ap (number 4) e i;
+      second = ap (number 5) e i;
+    }
+
+pub letters-told : (v w : Letters) → values (Message (OtherLetters v)) ≡ values (Message (OtherLetters w)) → v ≡ w
+letters-told v w e =
+    λ i. record {
+      first = ap (number 0) e i;
+      second = ap (number 1) e i;
+      third = ap (number 2) e i;
+      fourth = ap (number 3) e i;
+      fifth = ap (number 4) e i;
+      sixth = ap (number 5) e i;
+      seventh = ap (number 6) e i;
+      eighth = ap (number 7) e i;
+      ninth = ap (number 8) e i;
+      tenth = ap (number 9) e i;
     }

@@ -4,7 +4,7 @@
 -- of record; the argument from them is made once, over the kind and its number. Assumes nothing.
 use Prim.Native.Nat.{ℕ, _<_}
 use mathlib.Core.Path.{_≡_, refl, sym, _∙_, ap, ap₂, subst}
-use mathlib.Core.Bool.{Bool, true, false, cond, false≢true}
+use mathlib.Core.Bool.{Bool, true, cond, false≢true}
 use mathlib.Core.List.{List}
 use mathlib.Core.Logic.{_↔_, _≢_}
 use native.Mathlib.Omega.{arith}
@@ -17,44 +17,25 @@ use Rattle.rules.specs.Form.{inForm}
 use Rattle.rules.specs.declared.Frame.{Frame}
 use Rattle.rules.specs.declared.Frame.the-variants.{Ack, Status, Command, Apa02, Apa03, Apa05, Other, Message}
 use Rattle.rules.specs.declared.Message as MessageType
-use Rattle.rules.specs.declared.Message.the-variants.{Question, Number, Version, Clock, Tune, OtherLetters}
-use Rattle.rules.specs.declared.Reading.{Reading}
 use Rattle.rules.specs.declared.Reading.the-variants.{Good, Refused}
 use Rattle.frame_laws.proofs.Exact.{IsNumbered, textsIn, IsFrame}
+use Rattle.frame_laws.proofs.Reading.{ReadsAs, choice, exact-for, refused-for, message-family}
 use Rattle.frame_laws.proofs.Sentences.{payload, payload-good, payload-texts, payload-number, payload-parts, payload-back, frame-sentence, sentence-payload, sentence-frame}
 use Rattle.frame_laws.proofs.SentenceRecords.{SentenceKind, kind02, kind03, kind05}
 
-message-family : (m : MessageType.Message) → familyOf (kindOf (Message m)) ≡ 4
-message-family (Question letters) = refl
-message-family (Number letters n) = refl
-message-family (Version a b) = refl
-message-family (Clock c) = refl
-message-family Tune = refl
-message-family (OtherLetters w) = refl
-
--- What an answer of family 2 tells of the bytes: a frame, that it is one of this family and that they are it; a refusal,
--- that its number is 8.
-abbrev ReadsAs : List ℕ → Reading → Type 0
-ReadsAs bs (Good f) = (familyOf (kindOf f) ≡ 2) × IsFrame bs f
-ReadsAs bs (Refused m) = m ≡ notGood
-
--- what each of two answers tells where the test gives it, the chosen one tells
-choice : (P : Reading → Type 0) (test : Bool) (x y : Reading) → (test ≡ true → P x) → (test ≡ false → P y) → P (cond test x y)
-choice P true x y passed failed = passed refl
-choice P false x y passed failed = failed refl
-
-tells : (bs : List ℕ) → ReadsAs bs (readOne 2 bs)
+-- What the answer of family 2 tells of the bytes.
+tells : (bs : List ℕ) → ReadsAs 2 bs (readOne 2 bs)
 unfolding readOne readFamily2 readTexts
 tells bs =
     let n = numberOf (payloadOf bs) in
     let ts = textsOf (payloadOf bs) in
-    choice (ReadsAs bs) (isSentence bs) _ _
-    (λ s. choice (ReadsAs bs) (eqb n 2) _ _
-    (λ e2. choice (ReadsAs bs) (is02 ts) _ _ (λ good. (refl, ((s, eqb-true n 2 e2), good, refl))) (λ bad. refl))
-    (λ n2. choice (ReadsAs bs) (eqb n 3) _ _
-    (λ e3. choice (ReadsAs bs) (is03 ts) _ _ (λ good. (refl, ((s, eqb-true n 3 e3), good, refl))) (λ bad. refl))
-    (λ n3. choice (ReadsAs bs) (eqb n 5) _ _
-    (λ e5. choice (ReadsAs bs) (is05 ts) _ _ (λ good. (refl, ((s, eqb-true n 5 e5), good, refl))) (λ bad. refl))
+    choice (ReadsAs 2 bs) (isSentence bs) _ _
+    (λ s. choice (ReadsAs 2 bs) (eqb n 2) _ _
+    (λ e2. choice (ReadsAs 2 bs) (is02 ts) _ _ (λ good. (refl, ((s, eqb-true n 2 e2), good, refl))) (λ bad. refl))
+    (λ n2. choice (ReadsAs 2 bs) (eqb n 3) _ _
+    (λ e3. choice (ReadsAs 2 bs) (is03 ts) _ _ (λ good. (refl, ((s, eqb-true n 3 e3), good, refl))) (λ bad. refl))
+    (λ n3. choice (ReadsAs 2 bs) (eqb n 5) _ _
+    (λ e5. choice (ReadsAs 2 bs) (is05 ts) _ _ (λ good. (refl, ((s, eqb-true n 5 e5), good, refl))) (λ bad. refl))
     (λ n5. (refl, ((s, refl), eqb-false n 2 n2, eqb-false n 3 n3, eqb-false n 5 n5))))))
     (λ no-sentence. refl)
 
@@ -83,31 +64,29 @@ reads bs good = ap (λ b. cond b (readTexts (numberOf (payloadOf bs)) (textsOf (
 numbered : (bs : List ℕ) (n : ℕ) → IsNumbered bs n → readOne 2 bs ≡ readTexts n (textsIn bs)
 numbered bs n h = reads bs (h .0) ∙ ap (λ m. readTexts m (textsIn bs)) (h .1)
 
+-- A message is no sentence.
+no-message : (m : MessageType.Message) → familyOf (kindOf (Message m)) ≡ 2 → ⊥
+no-message m alpha = omega (arith, message-family m)
+
+-- each frame of the family is read
+is-read : (bs : List ℕ) (f : Frame) → familyOf (kindOf f) ≡ 2 → IsFrame bs f → readOne 2 bs ≡ Good f
+is-read bs (Ack c) alpha h = absurd (omega arith)
+is-read bs (Status s) alpha h = absurd (omega arith)
+is-read bs (Command c) alpha h = absurd (omega arith)
+is-read bs (Apa02 r) alpha h = numbered bs 2 (h .0) ∙ rw (h .2) (reads02 (textsIn bs) (h .1))
+is-read bs (Apa03 r) alpha h = numbered bs 3 (h .0) ∙ rw (h .2) (reads03 (textsIn bs) (h .1))
+is-read bs (Apa05 r) alpha h = numbered bs 5 (h .0) ∙ rw (h .2) (reads05 (textsIn bs) (h .1))
+is-read bs (Other n) alpha h = numbered bs n (h .0) ∙ readsOther (textsIn bs) n (h .1) (h .2) (h .3)
+is-read bs (Message m) alpha h = absurd (no-message m alpha)
+
 -- Bytes are read as a frame exactly where it is one of this family and they are it;
 pub family2-exact : (bs : List ℕ) (f : Frame) → (readOne 2 bs ≡ Good f) ↔ ((familyOf (kindOf f) ≡ 2) × IsFrame bs f)
-family2-exact bs f = (λ e. subst (ReadsAs bs) e (tells bs), λ h. back f (h .0) (h .1))
-  where
-    back : (k : Frame) → familyOf (kindOf k) ≡ 2 → IsFrame bs k → readOne 2 bs ≡ Good k
-    back (Ack c) alpha h = absurd (omega arith)
-    back (Status s) alpha h = absurd (omega arith)
-    back (Command c) alpha h = absurd (omega arith)
-    back (Apa02 r) alpha h = numbered bs 2 (h .0) ∙ rw (h .2) (reads02 (textsIn bs) (h .1))
-    back (Apa03 r) alpha h = numbered bs 3 (h .0) ∙ rw (h .2) (reads03 (textsIn bs) (h .1))
-    back (Apa05 r) alpha h = numbered bs 5 (h .0) ∙ rw (h .2) (reads05 (textsIn bs) (h .1))
-    back (Message m) alpha h = absurd h
-    back (Other n) alpha h = numbered bs n (h .0) ∙ readsOther (textsIn bs) n (h .1) (h .2) (h .3)
+family2-exact bs = exact-for 2 bs (tells bs) (is-read bs)
 
 -- where they are no such sentence, and only there, they are refused, with number 8.
-pub family2-refused : (bs : List ℕ) (n : ℕ) → (readOne 2 bs ≡ Refused n) ↔ (((f : Frame) → familyOf (kindOf f) ≡ 2 → IsFrame bs f → ⊥) × (n ≡ notGood))
-family2-refused bs n =
-    (λ e. (λ f alpha h. never f (family2-exact bs f .1 (alpha, h)) e, subst (ReadsAs bs) e (tells bs)), λ h. by-answer h (readOne 2 bs) refl (tells bs))
-  where
-    never : (f : Frame) → readOne 2 bs ≡ Good f → readOne 2 bs ≡ Refused n → ⊥
-    never f g r = let z : _≡_ {A = ℕ} 0 1 = cc in omega arith
-
-    by-answer : ((f : Frame) → familyOf (kindOf f) ≡ 2 → IsFrame bs f → ⊥) × (n ≡ notGood) → (a : Reading) → readOne 2 bs ≡ a → ReadsAs bs a → readOne 2 bs ≡ Refused n
-    by-answer h (Good f) e t = absurd (h .0 f (t .0) (t .1))
-    by-answer h (Refused m) e t = e ∙ ap Refused (t ∙ sym (h .1))
+pub family2-refused : (bs : List ℕ) (n : ℕ)
+    → (readOne 2 bs ≡ Refused n) ↔ (((f : Frame) → familyOf (kindOf f) ≡ 2 → IsFrame bs f → ⊥) × (n ≡ notGood))
+family2-refused bs = refused-for 2 bs (tells bs) (is-read bs)
 
 -- The argument for a kind of record and its number. What is written of a record in range is a sentence of that number
 -- with the texts written,
@@ -148,8 +127,8 @@ family2-back (Apa03 r) alpha fits =
     reads-written kind03 3 (lit< tt) r fits ∙ reads03 (texts03 r) (kind03 .good r fits) ∙ ap (λ x. Good (Apa03 x)) (kind03 .back r fits)
 family2-back (Apa05 r) alpha fits =
     reads-written kind05 5 (lit< tt) r fits ∙ reads05 (texts05 r) (kind05 .good r fits) ∙ ap (λ x. Good (Apa05 x)) (kind05 .back r fits)
-family2-back (Message m) alpha fits = absurd (omega (arith, message-family m, alpha))
 family2-back (Other n) alpha fits = absurd (false≢true fits)
+family2-back (Message m) alpha fits = absurd (no-message m alpha)
 
 -- What was read and has a writer may be written,
 pub family2-allowed : (bs : List ℕ) (f : Frame) → readOne 2 bs ≡ Good f → hasWriter f ≡ true → allowed f ≡ true
@@ -166,8 +145,8 @@ family2-allowed bs (Apa03 r) e writer =
 family2-allowed bs (Apa05 r) e writer =
     let h = family2-exact bs (Apa05 r) .0 e .1 in
     ap inRange05 (h .2) ∙ kind05 .range (textsIn bs) (h .1)
-family2-allowed bs (Message m) e writer = absurd (omega (arith, message-family m, family2-exact bs (Message m) .0 e .0))
 family2-allowed bs (Other n) e writer = absurd (false≢true writer)
+family2-allowed bs (Message m) e writer = absurd (no-message m (family2-exact bs (Message m) .0 e .0))
 
 -- and gives its own bytes if, and only if, it stood in the writer's form.
 pub family2-again : (bs : List ℕ) (f : Frame) → readOne 2 bs ≡ Good f → hasWriter f ≡ true → (bytesOf f ≡ bs) ↔ (inForm f bs ≡ true)
@@ -184,5 +163,5 @@ family2-again bs (Apa03 r) e writer =
 family2-again bs (Apa05 r) e writer =
     let h = family2-exact bs (Apa05 r) .0 e .1 in
     rw (h .2) (written-again kind05 5 (lit< tt) bs (h .0 .0) (h .0 .1) (h .1))
-family2-again bs (Message m) e writer = absurd (omega (arith, message-family m, family2-exact bs (Message m) .0 e .0))
 family2-again bs (Other n) e writer = absurd (false≢true writer)
+family2-again bs (Message m) e writer = absurd (no-message m (family2-exact bs (Message m) .0 e .0))

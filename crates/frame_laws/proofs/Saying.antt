@@ -7,8 +7,8 @@ use lib.Dec.{eqb}
 use Rattle.rules.specs.Bytes.{oneOf, same}
 use Rattle.rules.specs.Codes.{isAck, isCommand}
 use Rattle.rules.specs.Status.{isStatus}
-use Rattle.rules.specs.Messages.{isMessage, bodyOf, lettersIn, behindLetters, word, asLetters, behind, isNumber, arePairs, versionMarks, clockMarks, clockOf, clockInRange}
 use Rattle.rules.specs.Sentences.{isSentence, payloadOf, numberOf, textsOf, is02, is03, is05}
+use Rattle.rules.specs.Messages.{isMessage, bodyOf, lettersIn, behindLetters, word, asLetters, behind, isNumber, arePairs, versionMarks, clockMarks, clockOf, clockInRange}
 use Rattle.rules.specs.Answers.{no, noFamily, notGood, said, valuesOr8, readFamily1, readTexts, readFamily2, readFamily3, orQuestion, readBehind, readBody, readFamily4, readOne, isFamily, Reads}
 use Rattle.rules.specs.declared.Letters.{Letters}
 use Rattle.rules.specs.declared.Behind.{Behind}
@@ -52,14 +52,14 @@ family3-says : (bs : List ℕ) → Says8 (readFamily3 bs)
 unfolding readFamily3
 family3-says bs = frame-or (isCommand bs) _ _ refl
 
-question-says : (n : ℕ) (t : List ℕ) (r : Reading) → Says8 r → Says8 (orQuestion n t r)
-question-says n [] r e = refl
-question-says n (b ∷ bs) r e = e
+or-question : (n : ℕ) (t : List ℕ) (r : Reading) → Says8 r → Says8 (orQuestion n t r)
+or-question n [] r e = refl
+or-question n (b ∷ t) r e = e
 
-behind-says : (n : ℕ) (w : Letters) (k : Behind) (t : List ℕ) → Says8 (readBehind n w k t)
-behind-says n w (ANumber width limit) t = question-says n t _ (frame-or (isNumber width limit t) _ _ refl)
-behind-says n w AVersion t = question-says n t _ (frame-or (arePairs versionMarks t) _ _ refl)
-behind-says n w AClock t = question-says n t _ (frame-or (arePairs clockMarks t && clockInRange (clockOf t)) _ _ refl)
+behind-says : (n : ℕ) (w : Letters) (b : Behind) (t : List ℕ) → Says8 (readBehind n w b t)
+behind-says n w (ANumber width limit) t = or-question n t _ (frame-or (isNumber width limit t) _ _ refl)
+behind-says n w AVersion t = or-question n t _ (frame-or (arePairs versionMarks t) _ _ refl)
+behind-says n w AClock t = or-question n t _ (frame-or (arePairs clockMarks t && clockInRange (clockOf t)) _ _ refl)
 behind-says n w Alone t = frame-or (same t []) _ _ refl
 behind-says n w Anything t = refl
 
@@ -70,13 +70,15 @@ family4-says bs =
     or-8 (isMessage bs) _ (behind-says (word letters) (asLetters letters) (behind (word letters)) (behindLetters (bodyOf bs)))
 
 abbrev by-family : List ℕ → Bool → Bool → Bool → Bool → Reading
-by-family bs a b c d = cond a (readFamily1 bs) (cond b (readFamily2 bs) (cond c (readFamily3 bs) (cond d (readFamily4 bs) (Refused noFamily))))
+by-family bs a b c d =
+    cond a (readFamily1 bs) (cond b (readFamily2 bs) (cond c (readFamily3 bs) (cond d (readFamily4 bs) (Refused noFamily))))
 
 one-says : (family : ℕ) (bs : List ℕ) → said (readOne family bs) ≡ cond (not (isFamily family)) (no noFamily) (valuesOr8 (readOne family bs))
 unfolding readOne oneOf
 one-says family bs = case (eqb family 1) (eqb family 2) (eqb family 3) (eqb family 4)
   where
-    case : (a b c d : Bool) → said (by-family bs a b c d) ≡ cond (not (a || (b || (c || (d || false))))) (no noFamily) (valuesOr8 (by-family bs a b c d))
+    case : (a b c d : Bool)
+        → said (by-family bs a b c d) ≡ cond (not (a || (b || (c || (d || false))))) (no noFamily) (valuesOr8 (by-family bs a b c d))
     case true b c d = family1-says bs
     case false true c d = family2-says bs
     case false false true d = family3-says bs

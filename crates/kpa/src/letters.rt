@@ -9,7 +9,7 @@ ghost use Rattle.rules.specs.Messages.{isLetter, capital, letterRun, word, word
 ghost use Rattle.kpa.specs.Words.{wordBytes};
 
 // Whether b is a letter, in either case.
-pub(crate) fn is_letter(b: u8) -> bool
+pub fn is_letter(b: u8) -> bool
     ensures { λ r. ⌜ r ≡ isLetter b ⌝ }
 {
     ((b'A' <= b) & (b <= b'Z')) | ((b'a' <= b) & (b <= b'z'))

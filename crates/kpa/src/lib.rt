@@ -6,10 +6,10 @@ use crate::behind::read_clock;
 use crate::behind::read_number;
 use crate::behind::read_tune;
 use crate::behind::read_version;
-use crate::letters::is_letter;
 use crate::letters::letter_run;
 use crate::letters::letters_of;
 use crate::letters::word_of;
+pub use letters::is_letter;
 pub use letters::word_bytes;
 pub use letters::word_length;
 use records::behind_letters;
@@ -24,8 +24,9 @@ use rules::WORD_LETTERS;
 use texts::text_byte;
 ghost use mathlib.Core.Path.{_≡_};
 ghost use mathlib.Core.List.{map};
-ghost use Rattle.rules.specs.Bytes.{every};
-ghost use Rattle.rules.specs.Messages.{isBodyByte, isMessage, capital, asLetters};
+ghost use mathlib.Core.Bool.{_&&_};
+ghost use Rattle.rules.specs.Bytes.{every, first};
+ghost use Rattle.rules.specs.Messages.{isBodyByte, isLetter, isMessage, capital, asLetters};
 ghost use Rattle.rules.specs.Answers.{messages, Reads, isGood, readBody};
 ghost use Rattle.rules.specs.declared.Frame.the-variants.{Message as FrameOf};
 ghost use Rattle.rules.specs.declared.Message.the-variants.{OtherLetters};
@@ -41,11 +42,17 @@ pub fn read_message(s: &[u8]) -> Reading
     read_body(&s[1..s.len() - 1])
 }
 
-// Whether a body says something good, whatever else it may be. Whoever asks knows that its bytes may stand in one, and
-// how many they are.
+// Whether a body begins with a letter and says something good. Whoever asks knows that its bytes may stand in one, and how
+// many they may be.
 pub fn is_good_body(body: &[u8]) -> bool
-    ensures { λ r. ⌜ r ≡ isGood (readBody (now (body .entry))) ⌝ }
+    ensures { λ r. ⌜ r ≡ (isLetter (first (now (body .entry))) && isGood (readBody (now (body .entry)))) ⌝ }
 {
+    if body.len() == 0 {
+        return false;
+    }
+    if !is_letter(body[0]) {
+        return false;
+    }
     match read_body(body) {
         Reading::Good(_) => true,
         Reading::Refused(_) => false,

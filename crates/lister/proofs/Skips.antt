@@ -1,8 +1,7 @@
 -- Which starts are passed over together. A count is no mark, so around the fourth byte of an SPE start it is settled which
--- of the next starts can be good; and no sentence starts at a payload byte.
+-- of the next starts can be good; and no frame between brackets starts at an inner byte.
 -- Assumes nothing.
 use Prim.Native.Nat.{ℕ, _+_, _-_, _≤_, _<_}
-use Prim.Native.Char.{code}
 use mathlib.Core.Path.{_≡_, sym, _∙_}
 use mathlib.Core.Bool.{true}
 use mathlib.Core.List.{List}
@@ -10,10 +9,11 @@ use native.Mathlib.Decide.{ℕ-discrete, decLt}
 use native.Mathlib.Omega.{arith}
 use lib.ListN.{length, drop, getD, length-drop}
 use lib.Seq.{drop-drop, getD-drop}
-use Rattle.stream_rules.specs.Heads.{isSpe, markOf, payloadRun, head}
-use Rattle.stream_laws.proofs.Runs.{run-within}
+use Rattle.stream_rules.specs.Heads.{isSpe, bracketsOf, markOf, head}
+use Rattle.stream_laws.proofs.Bracketed.{Bracketed}
+use Rattle.stream_laws.proofs.Runs.{run, run-within}
 use Rattle.stream_laws.proofs.Starts.{NotGood, bad-not-good}
-use Rattle.search.proofs.Passing.{mark-is-no-count, behind-no-mark, not-dollar, in-the-run}
+use Rattle.search.proofs.Passing.{mark-is-no-count, behind-no-mark, unopened, in-the-run}
 use Rattle.lister.specs.GoodLengths.{goodLength, Passes}
 use Rattle.lister.proofs.GoodLengths.{length-none, no-length}
 
@@ -58,16 +58,17 @@ over-four family spe s at there other none =
     (and-behind family s at 4 none
     (λ j some few. bad-not-good (behind-no-mark family spe (drop at s) (omega (arith, length-drop at s)) (λ e. other (sym (getD-drop at s 3 0) ∙ e)) j some few .0)))
 
--- another byte than `$`: none here;
-pub over-byte : (s : List ℕ) (at : ℕ) → at < length s → (getD s at 0 ≡ code "$" → ⊥) → Passes 2 s at (at + 1)
-over-byte s at there other = over-none 2 s at there (length-none 2 (drop at s) (bad-not-good (not-dollar s at there other .0)))
+module _ (family : ℕ) (is : Bracketed family) (s : List ℕ) (at : ℕ) (there : at < length s) where
+  -- another byte than an opening one: none here;
+  pub over-byte : (getD s at 0 ≡ bracketsOf family .opening → ⊥) → Passes family s at (at + 1)
+  over-byte other = over-none family s at there (length-none family (drop at s) (bad-not-good (unopened family is s at there other .0)))
 
--- and a `$` with no frame: none here and in the run behind it.
-pub over-run : (s : List ℕ) (at n : ℕ) → at < length s → n ≤ length (payloadRun (drop 1 (drop at s))) → 0 ≡ goodLength 2 (drop at s) → Passes 2 s at (at + (n + 1))
-over-run s at n there within none =
-    passes 2 s at (n + 1)
-    (omega (arith, run-within (drop 1 (drop at s)), length-drop 1 (drop at s), length-drop at s))
-    (and-behind 2 s at (n + 1) none (λ j some p. bad-not-good (in-the-run (drop at s) j some (omega arith) .0)))
+  -- and an opening byte with no frame: none here and in the run behind it.
+  pub over-run : (n : ℕ) → n ≤ run (bracketsOf family) (drop at s) → 0 ≡ goodLength family (drop at s) → Passes family s at (at + (n + 1))
+  over-run n within none =
+      passes family s at (n + 1)
+      (omega (arith, run-within (bracketsOf family) (drop 1 (drop at s)), length-drop 1 (drop at s), length-drop at s))
+      (and-behind family s at (n + 1) none (λ j some p. bad-not-good (in-the-run family is (drop at s) j some (omega arith) .0)))
 
 -- From a place to a later one, and from there on.
 pub further : (family : ℕ) (s : List ℕ) (from at to : ℕ) → Passes family s from at → Passes family s at to → Passes family s from to

@@ -1,29 +1,32 @@
 // The lister: the starts of all frames in a capture.
 
+use crate::steps::bracketed_length;
 use crate::steps::command_length;
-use crate::steps::may_be_sentence;
+use crate::steps::may_begin;
 use crate::steps::next_command;
 use crate::steps::reply_length;
-use crate::steps::sentence_length;
 use rules::COMMANDS;
+use rules::MESSAGES;
 use rules::NO_FAMILY;
 use rules::NO_ROOM;
 use rules::PACKET_LENGTH;
 use rules::REPLY_MARK;
 use rules::SENTENCES;
-use rules::SHORTEST_FRAME;
 use rules::TOO_LONG;
+use starts::brackets_of;
+use starts::inner_bytes;
 use starts::is_family;
-use starts::payload_bytes;
+use starts::shortest_frame;
 use stream_rules::LONGEST_CAPTURE;
 use stream_rules::Listed;
 ghost use mathlib.Core.Path.{_≡_};
 ghost use mathlib.Core.Bool.{true};
 ghost use Prim.Native.Nat.{_≤_};
 ghost use lib.ListN.{length, set};
-ghost use Rattle.rules.specs.Answers.{replies, sentences, commands, isFamily};
+ghost use Rattle.rules.specs.Answers.{replies, commands, isFamily};
 ghost use Rattle.stream_rules.specs.Lister.{longestCapture, frames, Lists};
 ghost use Rattle.lister.specs.Fills.{Fills};
+ghost use Rattle.lister.specs.GoodLengths.{IsBracketed};
 
 // Notes a start in its place, where the list has that place.
 fn note(starts: &mut [u32], n: usize, at: usize)
@@ -81,24 +84,25 @@ fn fill_replies(capture: &[u8], starts: &mut [u32]) -> usize
     n
 }
 
-// The same for sentences. None starts at a payload byte.
-fn fill_sentences(capture: &[u8], starts: &mut [u32]) -> usize
-    requires { ⌜ length (now capture) ≤ longestCapture ⌝ }
-    ensures { λ r. ⌜ Fills sentences (now (capture .entry)) (now (starts .entry)) r (now (starts .exit)) ⌝ }
+// The same for sentences and messages. None starts at an inner byte.
+fn fill_bracketed(family: u8, capture: &[u8], starts: &mut [u32]) -> usize
+    requires { ⌜ IsBracketed family × (length (now capture) ≤ longestCapture) ⌝ }
+    ensures { λ r. ⌜ Fills family (now (capture .entry)) (now (starts .entry)) r (now (starts .exit)) ⌝ }
 {
+    let k = brackets_of(family);
     let mut at = 0;
     let mut n = 0;
     while at < capture.len() {
-        if capture[at] != b'$' {
+        if capture[at] != k.opening {
             at += 1;
             continue;
         }
-        if !may_be_sentence(&capture[at..]) {
+        if !may_begin(family, &capture[at..]) {
             at += 1;
             continue;
         }
-        let run = payload_bytes(&capture[at + 1..]);
-        let length = sentence_length(&capture[at..], run);
+        let run = inner_bytes(k, &capture[at + 1..]);
+        let length = bracketed_length(family, k, &capture[at..], run);
         if length == 0 {
             at += run + 1;
             continue;
@@ -115,13 +119,12 @@ fn fill_starts(family: u8, capture: &[u8], starts: &mut [u32]) -> usize
     requires { ⌜ (isFamily family ≡ true) × (length (now capture) ≤ longestCapture) ⌝ }
     ensures { λ r. ⌜ Fills family (now (capture .entry)) (now (starts .entry)) r (now (starts .exit)) ⌝ }
 {
-    if family == SENTENCES {
-        return fill_sentences(capture, starts);
+    match family {
+        SENTENCES => fill_bracketed(SENTENCES, capture, starts),
+        COMMANDS => fill_commands(capture, starts),
+        MESSAGES => fill_bracketed(MESSAGES, capture, starts),
+        _ => fill_replies(capture, starts),
     }
-    if family == COMMANDS {
-        return fill_commands(capture, starts);
-    }
-    fill_replies(capture, starts)
 }
 
 // How many frames a capture holds: the starts are filled into a list that is thrown away.
@@ -144,7 +147,7 @@ pub fn list_frames(family: u8, capture: &[u8], starts: &mut [u32]) -> Listed
         return Listed::Refused(TOO_LONG);
     }
     // here there is room for as many frames as there can be, and one pass is enough
-    if capture.len() / SHORTEST_FRAME <= starts.len() {
+    if capture.len() / shortest_frame(family) <= starts.len() {
         return Listed::Count(fill_starts(family, capture, starts));
     }
     if starts.len() < count_frames(family, capture) {

@@ -1,25 +1,30 @@
 // The steps of a walk along the starts of a capture: how long the good frame here is, with nothing more
 // to come, and where the next start is that may be good. Nothing of a frame is kept.
+use alpha::is_sentence;
+use kpa::is_good_body;
+use kpa::is_letter;
 use rules::CODE_COUNT;
 use rules::COMMAND_MARK;
-use rules::LONGEST_PAYLOAD;
+use rules::MESSAGES;
 use rules::PACKET_LENGTH;
 use rules::REPORT_COUNT;
+use rules::SHORTEST_MESSAGE;
 use rules::SHORTEST_SENTENCE;
 use spe::ends_report;
 use spe::is_ack;
 use spe::is_command;
 use spe::is_status;
 use spe::report_length;
+use stream_rules::Brackets;
 use texts::text;
 ghost use mathlib.Core.Path.{_≡_};
 ghost use mathlib.Core.Bool.{false};
-ghost use Prim.Native.Nat.{_+_, min, _≤_, _<_};
-ghost use lib.ListN.{length, drop};
-ghost use Rattle.rules.specs.Answers.{replies, sentences, commands};
+ghost use Prim.Native.Nat.{_+_, _≤_, _<_};
+ghost use lib.ListN.{length, take, drop};
+ghost use Rattle.rules.specs.Answers.{replies, sentences, commands, messages, isGood, readOne};
 ghost use Rattle.rules.specs.Codes.{packetLength};
-ghost use Rattle.stream_rules.specs.Heads.{payloadRun};
-ghost use Rattle.lister.specs.GoodLengths.{goodLength, Passes};
+ghost use Rattle.stream_rules.specs.Heads.{bracketsOf, around};
+ghost use Rattle.lister.specs.GoodLengths.{goodLength, Passes, IsBracketed, Counts, Enclosed};
 
 // How long the good command at the head is; 0 where there is none.
 pub(crate) fn command_length(s: &[u8]) -> usize
@@ -65,7 +70,7 @@ pub(crate) fn reply_length(s: &[u8]) -> usize
 
 // False only where no good sentence starts: too few bytes, or by what stands in its name's place, that begins with an
 // A, and no digit is below 0.
-pub(crate) fn may_be_sentence(s: &[u8]) -> bool
+fn may_be_sentence(s: &[u8]) -> bool
     ensures { λ r. ⌜ (r ≡ false → 0 ≡ goodLength sentences (now (s .entry))) ⌝ }
 {
     if s.len() < SHORTEST_SENTENCE {
@@ -77,23 +82,55 @@ pub(crate) fn may_be_sentence(s: &[u8]) -> bool
     b'0' <= s[5]
 }
 
-// How long the good sentence at the head is, with n payload bytes behind its first byte; 0 where there
-// is none.
-pub(crate) fn sentence_length(s: &[u8], n: usize) -> usize
-    requires { ⌜ n ≡ min (length (payloadRun (drop 1 (now s)))) 129 ⌝ }
-    ensures { λ r. ⌜ r ≡ goodLength sentences (now (s .entry)) ⌝ }
+// False only where no good message starts: too few bytes, or no letter behind the caret.
+fn may_be_message(s: &[u8]) -> bool
+    ensures { λ r. ⌜ (r ≡ false → 0 ≡ goodLength messages (now (s .entry))) ⌝ }
 {
-    if LONGEST_PAYLOAD < n {
+    if s.len() < SHORTEST_MESSAGE {
+        return false;
+    }
+    is_letter(s[1])
+}
+
+// False only where no good frame of the family starts.
+pub(crate) fn may_begin(family: u8, s: &[u8]) -> bool
+    requires { ⌜ IsBracketed family ⌝ }
+    ensures { λ r. ⌜ (r ≡ false → 0 ≡ goodLength family (now (s .entry))) ⌝ }
+{
+    if family == MESSAGES {
+        return may_be_message(s);
+    }
+    may_be_sentence(s)
+}
+
+// Whether the n bytes behind the opening one say something good, with their closing byte and what is behind it.
+fn says_good(family: u8, s: &[u8], n: usize) -> bool
+    requires { ⌜ IsBracketed family × Enclosed family n (now s) ⌝ }
+    ensures { λ r. ⌜ r ≡ isGood (readOne family (take (around (bracketsOf family) n) (now (s .entry)))) ⌝ }
+{
+    if family == MESSAGES {
+        return is_good_body(text(s, 1, n));
+    }
+    is_sentence(text(s, 0, n + 6))
+}
+
+// How long the good frame at the head is, with n inner bytes behind its first byte; 0 where there is none.
+pub(crate) fn bracketed_length(family: u8, k: Brackets, s: &[u8], n: usize) -> usize
+    requires { ⌜ IsBracketed family × (k ≡ bracketsOf family) × Counts family n (now s) ⌝ }
+    ensures { λ r. ⌜ r ≡ goodLength family (now (s .entry)) ⌝ }
+{
+    if k.most < n {
         return 0;
     }
-    if s.len() < n + 6 {
+    let whole = n + 2 + k.tail;
+    if s.len() < whole {
         return 0;
     }
-    if s[n + 1] != b'*' {
+    if s[n + 1] != k.closing {
         return 0;
     }
-    if alpha::is_sentence(text(s, 0, n + 6)) {
-        return n + 6;
+    if says_good(family, s, n) {
+        return whole;
     }
     0
 }

@@ -1,23 +1,25 @@
 -- Which starts are bad by a byte that stands further on, and how many bytes settle them: of an SPE family those with a byte
--- other than a mark among their first three, or with a mark for a count; of sentences those in the run behind a `$`.
+-- other than a mark among their first three, or with a mark for a count; between brackets those in the run behind an opening
+-- byte.
 -- Assumes nothing.
 use Prim.Native.Nat.{ℕ, zero, suc, _+_, _-_, _≤_, _<_}
-use Prim.Native.Char.{code}
 use mathlib.Core.Path.{_≡_, refl, sym, ap, subst, _∙_}
-use mathlib.Core.Bool.{Bool, true, false, cond}
+use mathlib.Core.Bool.{Bool, true, false, _&&_, cond, and-false, false≢true}
 use mathlib.Core.List.{List, [], _∷_}
 use native.Mathlib.Decide.{ℕ-discrete}
 use native.Mathlib.Numerals.{add-one}
 use native.Mathlib.Omega.{arith}
-use lib.Dec.{eqb}
+use borrow.Author.Tests.{eq-eqb}
+use lib.Dec.{eqb, leb}
 use lib.ListN.{length, drop, getD, length-drop}
 use lib.Seq.{getD-drop}
-use Rattle.rules.specs.Sentences.{isPayloadByte}
-use Rattle.stream_rules.specs.Heads.{isSpe, markOf, countOf, needs, payloadRun, bad, head}
+use Rattle.stream_rules.specs.Heads.{isSpe, markOf, countOf, needs, bracketsOf, isInner, innerRun, bad, head}
+use Rattle.stream_rules.specs.declared.Brackets.{Brackets}
 use Rattle.stream_laws.specs.Settled.{settled}
 use Rattle.stream_laws.proofs.PacketStarts.{needs-none, Marks, no-marks, one-more, no-mark, no-count}
 use Rattle.stream_laws.proofs.Runs.{run, run-within}
-use Rattle.stream_laws.proofs.SentenceStarts.{no-dollar}
+use Rattle.stream_laws.proofs.Bracketed.{Bracketed}
+use Rattle.stream_laws.proofs.BracketStarts.{not-opened}
 
 -- a bad start, settled by so many bytes, or by so many at most
 abbrev pub SettledBy : ℕ → List ℕ → ℕ → Type 0
@@ -78,41 +80,44 @@ behind-no-mark family spe bs there other j some few =
     (λ e. other (ap (λ (k : ℕ). getD bs k 0) (omega arith) ∙ sym (getD-drop j bs (3 - j) 0) ∙ e)) in
     (h .0, omega (arith, h .1))
 
--- each byte of a run is a payload byte
-run-byte : (bs : List ℕ) (j : ℕ) → j < length (payloadRun bs) → isPayloadByte (getD bs j 0) ≡ true
-unfolding payloadRun
-run-byte [] j h = absurd (omega arith)
-run-byte (b ∷ bs) zero h = by (isPayloadByte b) h
+-- each byte of a run is an inner byte
+run-byte : (k : Brackets) (bs : List ℕ) (j : ℕ) → j < length (innerRun k bs) → isInner k (getD bs j 0) ≡ true
+unfolding innerRun
+run-byte k [] j h = absurd (omega arith)
+run-byte k (b ∷ bs) zero h = by (isInner k b) h
   where
-    by : (t : Bool) → 0 < length (cond t (b ∷ payloadRun bs) []) → t ≡ true
+    by : (t : Bool) → 0 < length (cond t (b ∷ innerRun k bs) []) → t ≡ true
     by true p = refl
     by false p = absurd (omega arith)
-run-byte (b ∷ bs) (suc j) h = run-byte bs j (by (isPayloadByte b) h)
+run-byte k (b ∷ bs) (suc j) h = run-byte k bs j (by (isInner k b) h)
   where
-    by : (t : Bool) → suc j < length (cond t (b ∷ payloadRun bs) []) → j < length (payloadRun bs)
+    by : (t : Bool) → suc j < length (cond t (b ∷ innerRun k bs) []) → j < length (innerRun k bs)
     by true p = omega arith
     by false p = absurd (omega arith)
 
-dollar-no-payload : isPayloadByte (code "$") ≡ false
-unfolding isPayloadByte
-dollar-no-payload = refl
+-- and no inner byte is an opening one
+no-opening : (k : Brackets) (b : ℕ) → b ≡ k .opening → isInner k b ≡ false
+no-opening k b e = rw (eq-eqb b (k .opening) e, and-false (leb 0x20 b && leb b 0x7E))
 
--- a start at another byte than `$`, within some bytes
-pub not-dollar : (s : List ℕ) (at : ℕ) → at < length s → (getD s at 0 ≡ code "$" → ⊥) → SettledBy 2 (drop at s) 1
-not-dollar s at there other =
-    no-dollar (drop at s) (omega (arith, length-drop at s)) (λ e. other (ap (λ (k : ℕ). getD s k 0) (omega arith) ∙ sym (getD-drop at s 0 0) ∙ e))
+module _ (family : ℕ) (is : Bracketed family) (s : List ℕ) where
+  -- a start at another byte than an opening one, within some bytes
+  pub unopened : (at : ℕ) → at < length s → (getD s at 0 ≡ bracketsOf family .opening → ⊥) → SettledBy family (drop at s) 1
+  unopened at there other =
+      not-opened family is (drop at s) (omega (arith, length-drop at s))
+      (λ e. other (ap (λ (k : ℕ). getD s k 0) (omega arith) ∙ sym (getD-drop at s 0 0) ∙ e))
 
--- a start in the run behind a byte
-pub in-the-run : (bs : List ℕ) (j : ℕ) → 0 < j → j ≤ run bs → SettledBy 2 (drop j bs) 1
-in-the-run bs j some within = not-dollar bs j (omega (arith, run-within (drop 1 bs), length-drop 1 bs)) dollar
-  where
-    byte : isPayloadByte (getD bs j 0) ≡ true
-    byte =
-        ap (λ (k : ℕ). isPayloadByte (getD bs k 0)) (omega arith)
-        ∙ ap isPayloadByte (sym (getD-drop 1 bs (j - 1) 0))
-        ∙ run-byte (drop 1 bs) (j - 1) (omega arith)
+  -- a start in the run behind a byte
+  pub in-the-run : (j : ℕ) → 0 < j → j ≤ run (bracketsOf family) s → SettledBy family (drop j s) 1
+  in-the-run j some within = unopened j (omega (arith, run-within (bracketsOf family) (drop 1 s), length-drop 1 s)) opening
+    where
+      k : Brackets
+      k = bracketsOf family
 
-    dollar : getD bs j 0 ≡ code "$" → ⊥
-    dollar e =
-        let z : _≡_ {A = ℕ} 0 1 = cc (byte, ap isPayloadByte e, dollar-no-payload) in
-        omega arith
+      byte : isInner k (getD s j 0) ≡ true
+      byte =
+          ap (λ (i : ℕ). isInner k (getD s i 0)) (omega arith)
+          ∙ ap (isInner k) (sym (getD-drop 1 s (j - 1) 0))
+          ∙ run-byte k (drop 1 s) (j - 1) (omega arith)
+
+      opening : getD s j 0 ≡ k .opening → ⊥
+      opening e = false≢true (sym (no-opening k (getD s j 0) e) ∙ byte)

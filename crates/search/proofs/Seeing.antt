@@ -2,27 +2,31 @@
 -- by what was seen.
 -- By the tests of the definitions: a good frame is settled by as many bytes as it has. Assumes nothing.
 use Prim.Native.Nat.{ℕ, _+_, _≤_, _<_}
-use Prim.Native.Char.{code}
 use mathlib.Core.Path.{_≡_, refl, sym, ap, subst⁻¹, _∙_}
-use mathlib.Core.Bool.{Bool, true, false, cond, not}
+use mathlib.Core.Bool.{Bool, true, false, _&&_, cond, not, and-false, false≢true}
 use mathlib.Core.List.{List}
 use mathlib.Core.Logic.{⊎-elim}
-use native.Mathlib.Decide.{decLt}
+use native.Mathlib.Decide.{decLt, ℕ-discrete}
 use native.Mathlib.Omega.{arith}
-use borrow.Author.Tests.{eq-eqb, ne-eqb, eqb-true, eqb-false, le-leb}
+use borrow.Author.Tests.{eq-eqb, ne-eqb, eqb-true}
 use lib.Dec.{eqb, lit≤}
 use lib.ListN.{length, take, getD}
 use Rattle.rules.specs.Codes.{packetLength}
 use Rattle.rules.specs.Answers.{readOne}
-use Rattle.frame_laws.proofs.Bytes.{answer}
-use Rattle.stream_rules.specs.Heads.{isSpe, wait, bad, markOf, needs, lengthAt, undecided as waits, headOf, head}
-use Rattle.stream_laws.specs.Settled.{spe-settled, sentence-settled, settled}
+use Rattle.rules.specs.declared.Frame.{Frame}
+use Rattle.rules.specs.declared.Reading.the-variants.{Good}
+use Rattle.frame_laws.proofs.Bytes.{answer, both-left, both-pass}
+use Rattle.stream_rules.specs.Heads.{isSpe, bracketsOf, around, wait, bad, good, markOf, needs, lengthAt, undecided as waits, headOf, head}
+use Rattle.stream_rules.specs.declared.Brackets.{Brackets}
+use Rattle.stream_laws.specs.Settled.{spe-settled, settled}
 use Rattle.stream_laws.proofs.Course.{headOf-decided, headOf-bad}
-use Rattle.stream_laws.proofs.Heads.{good-head}
+use Rattle.stream_laws.proofs.Heads.{GoodHead, good-head}
+use Rattle.stream_laws.proofs.Numbers.{Number, of-packets, of-brackets, number}
 use Rattle.stream_laws.proofs.PacketStarts.{Marks, few-marks, needs-six}
 use Rattle.stream_laws.proofs.Runs.{run}
-use Rattle.stream_laws.proofs.SentenceStarts.{too-long}
-use Rattle.search.specs.Seen.{seen}
+use Rattle.stream_laws.proofs.Bracketed.{Bracketed, length-is}
+use Rattle.stream_laws.proofs.BracketStarts.{too-long, inner-open, not-closed, tail-missing, all-there}
+use Rattle.search.specs.Seen.{isClosedOff, seen}
 use Rattle.search.specs.declared.heads.Seen as SeenType
 use Rattle.search.specs.declared.heads.Seen.the-variants.{Whole, Bad, Undecided}
 
@@ -54,7 +58,10 @@ module _ (family : ℕ) (bs : List ℕ) where
   unfolding head
   head-by b e = rw e
 
-  seen-by : (u w : Bool) → waits family bs ≡ u → eqb (settled family bs) declared ≡ w → by u w declared (settled family bs) ≡ seen family bs
+  abbrev whole-test : Bool
+  whole-test = eqb (settled family bs) declared && isClosedOff family bs
+
+  seen-by : (u w : Bool) → waits family bs ≡ u → whole-test ≡ w → by u w declared (settled family bs) ≡ seen family bs
   unfolding seen
   seen-by u w is-u is-w = λ i. by (sym is-u i) (sym is-w i) declared (settled family bs)
 
@@ -69,41 +76,64 @@ module _ (family : ℕ) (bs : List ℕ) where
   pub undecided : head family bs ≡ wait → Undecided ≡ seen family bs
   undecided e = seen-by true _ (waiting e) refl
 
-  pub bad-start : (d : ℕ) → (head family bs ≡ bad) × (settled family bs ≡ d) → (d ≡ declared → ⊥) → Bad d ≡ seen family bs
-  bad-start d e other =
-      ap Bad (sym (e .1))
-      ∙ seen-by false false
-      (decided (λ w. let z : _≡_ {A = ℕ} 0 1 = cc (e .0) in omega arith))
-      (ne-eqb (settled family bs) declared (λ same. other (sym (e .1) ∙ same)))
+  no-whole : (d : ℕ) → (head family bs ≡ bad) × (settled family bs ≡ d) → whole-test ≡ false → Bad d ≡ seen family bs
+  no-whole d e other = ap Bad (sym (e .1)) ∙ seen-by false false (decided (λ w. let z : _≡_ {A = ℕ} 0 1 = cc (e .0) in omega arith)) other
 
-  pub by-whole : (n : ℕ) → (head family bs ≡ headOf n (readOne family (take n bs))) × (settled family bs ≡ n) → declared ≡ n → Whole n ≡ seen family bs
-  by-whole n e is =
+  -- a bad start that was settled by another number of bytes, or that is not closed off
+  pub bad-start : (d : ℕ) → (head family bs ≡ bad) × (settled family bs ≡ d) → (d ≡ declared → ⊥) → Bad d ≡ seen family bs
+  bad-start d e other = no-whole d e (rw (ne-eqb (settled family bs) declared (λ same. other (sym (e .1) ∙ same))))
+
+  pub bad-unclosed : (d : ℕ) → (head family bs ≡ bad) × (settled family bs ≡ d) → isClosedOff family bs ≡ false → Bad d ≡ seen family bs
+  bad-unclosed d e unclosed = no-whole d e (rw unclosed (and-false (eqb (settled family bs) declared)))
+
+  pub by-whole : (n : ℕ) → (head family bs ≡ headOf n (readOne family (take n bs))) × (settled family bs ≡ n) → declared ≡ n → isClosedOff family bs ≡ true
+      → Whole n ≡ seen family bs
+  by-whole n e is closed =
       ap Whole (sym is)
       ∙ seen-by false true
       (decided (λ w. headOf-decided n (readOne family (take n bs)) (sym (e .0) ∙ w)))
-      (eq-eqb (settled family bs) declared (e .1 ∙ sym is))
+      (both-pass _ _ (eq-eqb (settled family bs) declared (e .1 ∙ sym is)) closed)
+
+  -- a good frame was settled by all its bytes, and is closed off
+  good-passes : (f : Frame) → head family bs ≡ good declared f → whole-test ≡ true
+  good-passes f is =
+      let g : GoodHead family bs declared f = good-head family bs declared f is in
+      both-pass _ _ (eq-eqb (settled family bs) declared (g .settles)) (closed-off (number family) f (g .read))
+    where
+      closed-off : Number family → (f : Frame) → readOne family (take declared bs) ≡ Good f → isClosedOff family bs ≡ true
+      closed-off (of-packets spe) f e = rw spe
+      closed-off (of-brackets k) f e = let h = k .good-start bs declared f e in rw (k .no-spe) (eq-eqb _ _ (h .closes))
 
   -- and back: what stands at the head, from what is seen
   pub seen-undecided : seen family bs ≡ Undecided → head family bs ≡ wait
   unfolding seen
-  seen-undecided e = head-by true (is-undecided (waits family bs) (eqb (settled family bs) declared) declared (settled family bs) e)
+  seen-undecided e = head-by true (is-undecided (waits family bs) whole-test declared (settled family bs) e)
 
   pub seen-bad : (d : ℕ) → seen family bs ≡ Bad d → (head family bs ≡ bad) × (settled family bs ≡ d)
   unfolding seen
   seen-bad d e =
-      let h = is-bad (waits family bs) (eqb (settled family bs) declared) declared (settled family bs) d e in
+      let h = is-bad (waits family bs) whole-test declared (settled family bs) d e in
       let at = head-by false (h .0) in (
-        at ∙ headOf-bad declared (readOne family (take declared bs)) (λ f read. eqb-false (settled family bs) declared (h .1 .0) (good-head family bs declared f (at ∙ ap (headOf declared) read) .settles)),
+        at ∙ headOf-bad declared (readOne family (take declared bs)) (λ f read. false≢true (sym (h .1 .0) ∙ good-passes f (at ∙ ap (headOf declared) read))),
         h .1 .1,
       )
 
   pub seen-whole : (n : ℕ) → seen family bs ≡ Whole n → (head family bs ≡ headOf n (readOne family (take n bs))) × (settled family bs ≡ n)
   unfolding seen
   seen-whole n e =
-      let h = is-whole (waits family bs) (eqb (settled family bs) declared) declared (settled family bs) n e in (
+      let h = is-whole (waits family bs) whole-test declared (settled family bs) n e in (
         head-by false (h .0) ∙ ap (λ (k : ℕ). headOf k (readOne family (take k bs))) (h .1 .1),
-        eqb-true (settled family bs) declared (h .1 .0) ∙ h .1 .1,
+        eqb-true (settled family bs) declared (both-left _ _ (h .1 .0)) ∙ h .1 .1,
       )
+
+  -- a start that is seen to be bad: it is not whole
+  pub not-whole : (d : ℕ) → seen family bs ≡ Bad d → (whole-test ≡ false) × (settled family bs ≡ d)
+  unfolding seen
+  not-whole d e = is-bad (waits family bs) whole-test declared (settled family bs) d e .1
+
+  pub whole-is : (n : ℕ) → seen family bs ≡ Whole n → declared ≡ n
+  unfolding seen
+  whole-is n e = is-whole (waits family bs) whole-test declared (settled family bs) n e .1 .1
 
 -- Of an SPE family: k marks and nothing more, k below four, is undecided; a start that fewer than six bytes settle is bad,
 -- since no start needs so few; the length is what it needs, and no whole frame is shorter than a packet with a code.
@@ -115,10 +145,8 @@ module _ (family : ℕ) (spe : isSpe family ≡ true) (bs : List ℕ) where
   counted = rw spe
 
   pub whole-length : (n : ℕ) → 0 < n → seen family bs ≡ Whole n → packetLength ≤ n
-  unfolding seen
   whole-length n some e =
-      let declared = lengthAt family bs in
-      let is : declared ≡ n = is-whole (waits family bs) (eqb (settled family bs) declared) declared (settled family bs) n e .1 .1 in
+      let is = whole-is family bs n e in
       omega (arith, is, counted, needs-six family bs (omega (arith, is, counted, some)))
 
   pub bad-packet : (d : ℕ) → 0 < d → d < 6 → (head family bs ≡ bad) × (settled family bs ≡ d) → Bad d ≡ seen family bs
@@ -139,29 +167,62 @@ module _ (family : ℕ) (spe : isSpe family ≡ true) (bs : List ℕ) where
   at-most-four false false false false n other = absurd (other refl)
 
   pub bad-soon : (d : ℕ) → seen family bs ≡ Bad d → d ≤ 4
-  unfolding seen spe-settled
+  unfolding spe-settled
   bad-soon d e =
-      let h = is-bad (waits family bs) (eqb (settled family bs) (lengthAt family bs)) (lengthAt family bs) (settled family bs) d e in
+      let h = not-whole family bs d e in
       let other : spe-settled family bs ≡ needs family bs → ⊥ =
-      λ same. eqb-false (settled family bs) (lengthAt family bs) (h .1 .0) (settled-is ∙ same ∙ sym counted) in
+      λ same.
+      false≢true
+      (sym (h .0) ∙ both-pass _ _ (eq-eqb (settled family bs) (lengthAt family bs) (settled-is ∙ same ∙ sym counted)) (rw spe)) in
       let mark : ℕ → Bool = λ k. not (eqb (markOf family) (getD bs k 0)) in
-      omega (arith, at-most-four (mark 0) (mark 1) (mark 2) (eqb (needs family bs) 0) (needs family bs) other, settled-is, h .1 .1)
+      omega (arith, at-most-four (mark 0) (mark 1) (mark 2) (eqb (needs family bs) 0) (needs family bs) other, settled-is, h .1)
 
--- A `$` that is seen to be a bad start was settled by the byte behind its payload bytes, or by one of them.
-pub bad-behind : (bs : List ℕ) → getD bs 0 0 ≡ code "$" → (d : ℕ) → seen 2 bs ≡ Bad d → (2 ≤ d) × (d ≤ run bs + 2)
-unfolding seen settled sentence-settled
-bad-behind bs dollar d e =
-    let h = is-bad (waits 2 bs) (eqb (settled 2 bs) (run bs + 6)) (run bs + 6) (settled 2 bs) d e in
-    let other = eqb-false (settled 2 bs) (run bs + 6) (h .1 .0) in
-    elim (decLt 128 (run bs)) [
-      | yes long ↦ let is = too-long bs dollar long .1 in (omega (arith, is, h .1 .1), omega (arith, is, h .1 .1))
-      | no fits ↦
-          let star = eqb (getD bs (run bs + 1) 0) (code "*") in
-          let by-end : settled 2 bs ≡ cond star (run bs + 6) (run bs + 2) = rw (dollar, le-leb (run bs) 128 (omega arith)) in
-          let is = by-star star (run bs) (λ same. other (by-end ∙ same)) in
-          (omega (arith, by-end, is, h .1 .1), omega (arith, by-end, is, h .1 .1))
-    ]
-  where
-    by-star : (star : Bool) (r : ℕ) → (cond star (r + 6) (r + 2) ≡ r + 6 → ⊥) → cond star (r + 6) (r + 2) ≡ r + 2
-    by-star true r other = absurd (other refl)
-    by-star false r other = refl
+-- what is closed off, and what is not
+pub closes-off : (family : ℕ) (is : Bracketed family) (bs : List ℕ) → getD bs (run (bracketsOf family) bs + 1) 0 ≡ bracketsOf family .closing
+    → isClosedOff family bs ≡ true
+closes-off family is bs closes = rw (is .no-spe) (eq-eqb _ _ closes)
+
+pub stays-open : (family : ℕ) (is : Bracketed family) (bs : List ℕ) → (getD bs (run (bracketsOf family) bs + 1) 0 ≡ bracketsOf family .closing → ⊥)
+    → isClosedOff family bs ≡ false
+stays-open family is bs other = rw (is .no-spe) (ne-eqb _ _ other)
+
+-- Between brackets: an opened start that is seen to be bad was settled by the byte behind its inner bytes, or by one of them.
+module _ (family : ℕ) (is : Bracketed family) (bs : List ℕ) (some : 0 < length bs) (opens : getD bs 0 0 ≡ bracketsOf family .opening) where
+  abbrev k : Brackets
+  k = bracketsOf family
+
+  pub bad-behind : (d : ℕ) → seen family bs ≡ Bad d → (2 ≤ d) × (d ≤ run k bs + 2)
+  bad-behind d e =
+      let h = not-whole family bs d e in
+      elim (decLt (k .most) (run k bs)) [
+        | yes long ↦ let settles = too-long family is bs some opens long .1 in (omega (arith, settles, h .1), omega (arith, settles, h .1))
+        | no fits ↦
+            let there : run k bs + 1 < length bs = behind-run d e (omega arith) in
+            elim (ℕ-discrete (getD bs (run k bs + 1) 0) (k .closing)) [
+              | yes closes ↦ absurd (closed d e (omega arith) closes)
+              | no other ↦
+                  let settles = not-closed family is bs some opens (run k bs) refl (omega arith) there other .1 in
+                  (omega (arith, settles, h .1), omega (arith, settles, h .1))
+            ]
+      ]
+    where
+      bad-waits : (d : ℕ) → seen family bs ≡ Bad d → head family bs ≡ wait → ⊥
+      bad-waits d e w = let z : _≡_ {A = ℕ} 0 1 = cc (seen-bad family bs d e .0) in omega arith
+
+      behind-run : (d : ℕ) → seen family bs ≡ Bad d → run k bs ≤ k .most → run k bs + 1 < length bs
+      behind-run d e fits =
+          elim (decLt (run k bs + 1) (length bs)) [
+            | yes there ↦ there
+            | no end ↦ absurd (bad-waits d e (inner-open family is bs some opens (run k bs) refl fits (omega arith)))
+          ]
+
+      closed : (d : ℕ) → seen family bs ≡ Bad d → run k bs ≤ k .most → getD bs (run k bs + 1) 0 ≡ k .closing → ⊥
+      closed d e fits closes =
+          elim (decLt (length bs) (around k (run k bs))) [
+            | yes fewer ↦ bad-waits d e (tail-missing family is bs some opens (run k bs) refl fits closes fewer)
+            | no enough ↦
+                let whole = all-there family is bs some opens (run k bs) refl fits closes (omega arith) .1 in
+                false≢true
+                (sym (not-whole family bs d e .0)
+                ∙ both-pass _ _ (eq-eqb (settled family bs) (lengthAt family bs) (whole ∙ sym (length-is family is bs))) (closes-off family is bs closes))
+          ]

@@ -3,7 +3,7 @@
 -- Assumes nothing.
 use Prim.Native.Nat.{ℕ, zero, suc, max, _+_, _-_, _≤_, _<_}
 use mathlib.Core.Path.{_≡_, refl, sym, ap, subst, _∙_}
-use mathlib.Core.Bool.{true, false, false≢true}
+use mathlib.Core.Bool.{true}
 use mathlib.Core.List.{List}
 use native.Mathlib.Decide.{decLt, ℕ-discrete}
 use native.Mathlib.Nat.{add-zero, add-suc}
@@ -11,12 +11,11 @@ use native.Mathlib.Numerals.{add-one}
 use native.Mathlib.Omega.{arith}
 use lib.ListN.{length, take, drop, length-drop}
 use lib.Seq.{drop-drop}
-use Rattle.rules.specs.Answers.{sentences, readOne}
+use Rattle.rules.specs.Answers.{readOne}
 use Rattle.stream_rules.specs.Heads.{isSpe, shortestFrame, markOf, wait, bad, headOf, head}
 use Rattle.stream_laws.specs.Settled.{settled, reach}
 use Rattle.stream_laws.proofs.Course.{headOf-decided}
 use Rattle.stream_laws.proofs.Heads.{settling}
-use Rattle.stream_laws.proofs.Numbers.{Stranger, Number, of-packets, of-sentences, of-none, number, refuses, settled-same, waits-too, bad-else, reach-same}
 use Rattle.search.specs.Sought.{AtStop, Walks, Unmarked, Stops}
 use Rattle.search.specs.declared.Stop.{Stop}
 use Rattle.search.proofs.Passing.{SettledBy, BadBy, unmarked}
@@ -146,33 +145,3 @@ module _ (family : ℕ) (bs : List ℕ) where
   pub stops-to-read : (from far at on n : ℕ) → Walks family bs from far at on → WholeAt at n → Stops family bs from far (record { at = at; length = n; reach = on })
   stops-to-read from far at on n w h =
       stops from far at on n w (record { waits = λ none there. absurd (omega (arith, whole-there at n h .0)); whole = λ some. h })
-
--- A number that is no family stops where sentences do, and no bytes there are good.
-no-family-stops : (family : ℕ) → Stranger family → (bs : List ℕ) (from far : ℕ) (r : Stop) → Stops sentences bs from far r → Stops family bs from far r
-no-family-stops family stranger bs from far r s = record {
-  walks = record {
-    ahead = s .walks .ahead;
-    within = s .walks .within;
-    passes = λ j p q. bad-else family stranger (drop j bs) (λ w. let z : _≡_ {A = ℕ} 0 1 = cc (s .walks .passes j p q) in omega arith);
-    reaches = rw (reach-same family stranger from bs, reach-same family stranger (r .at) bs) (s .walks .reaches);
-  };
-  found = record {
-    waits = λ none there. waits-too family stranger (drop (r .at) bs) (s .found .waits none there);
-    whole = λ some.
-        let here = drop (r .at) bs in
-        let h = s .found .whole some in (
-          bad-else family stranger here (λ w. headOf-decided (r .length) (readOne sentences (take (r .length) here)) (sym (h .0) ∙ w))
-              ∙ ap (headOf (r .length)) (sym (refuses family stranger (take (r .length) here))),
-          settled-same family stranger here ∙ h .1,
-        );
-  };
-}
-
--- So whatever is no SPE packet stops where sentences do.
-pub stops-other : (family : ℕ) → isSpe family ≡ false → (bs : List ℕ) (from far : ℕ) (r : Stop) → Stops sentences bs from far r → Stops family bs from far r
-stops-other family other bs from far r s = by (number family)
-  where
-    by : Number family → Stops family bs from far r
-    by (of-packets spe) = absurd (false≢true (sym other ∙ spe))
-    by (of-sentences is) = rw is s
-    by (of-none stranger) = no-family-stops family stranger bs from far r s

@@ -4,16 +4,16 @@
 use Prim.Native.Nat.{ℕ, zero, suc, _+_, _-_, _*_, _≤_, _<_}
 use mathlib.Core.Path.{_≡_, refl, sym, ap, subst₃, _∙_}
 use mathlib.Core.List.{List, [], _∷_}
-use native.Mathlib.Nat.{zero-add, add-assoc}
+use native.Mathlib.Nat.{zero-add, add-assoc, mul-zero, mul-suc}
 use native.Mathlib.Omega.{arith}
 use lib.ListN.{length, drop, length-drop, drop-of-length-le}
 use lib.Seq.{drop-drop}
 use Rattle.rules.specs.declared.Frame.{Frame}
-use Rattle.stream_rules.specs.Heads.{shortestFrame, longest, good, head, atClose}
+use Rattle.stream_rules.specs.Heads.{shortest, longest, good, head, atClose}
 use Rattle.stream_rules.specs.Rule.{Found, rule, Look, ready, waiting, look, byLook}
 use Rattle.stream_rules.specs.Lister.{frames}
 use Rattle.stream_laws.proofs.Looks.{found, drains, rule-drains, FrameFirst, look-ready, closed-good}
-use Rattle.stream_laws.proofs.Heads.{shortest-of-all, GoodHead, good-head}
+use Rattle.stream_laws.proofs.Heads.{GoodHead, good-head}
 use Rattle.stream_laws.proofs.Families.{facts}
 use Rattle.search.specs.Sought.{firstFrom}
 use Rattle.search.specs.declared.First.{First}
@@ -28,7 +28,7 @@ pub record Next (family : ℕ) (bs : List ℕ) (at start n : ℕ) (f : Frame) : 
   pub skipped : ℕ
   pub place : start ≡ at + skipped
   pub some : 0 < n
-  pub long : shortestFrame ≤ n
+  pub long : shortest family ≤ n
   pub there : start + n ≤ length bs
   pub lists : left family bs at ≡ found start skipped n f ∷ left family bs (start + n)
 
@@ -43,7 +43,7 @@ module _ (family : ℕ) (bs : List ℕ) (at : ℕ) where
         skipped = k;
         place = refl;
         some = whole .some;
-        long = omega (arith, whole .long, shortest-of-all family);
+        long = whole .long;
         there = omega (arith, whole .some, whole .there, length-drop k (drop at bs), length-drop at bs);
         lists = rule-drains (head family) (longest family) (facts family) (drop at bs) at 0
             ∙ ap (drains (head family) at 0) e
@@ -78,19 +78,24 @@ pub at-end : (family : ℕ) (bs : List ℕ) (at : ℕ) → length bs ≤ at → 
 unfolding rule
 at-end family bs at h = ap (rule (head family) 0 at 0) (drop-of-length-le bs h)
 
--- Each of the frames left has at least as many bytes as the shortest, and together they have no more than are left.
+-- Each of the frames left has at least as many bytes as the family's shortest, and together they have no more than are left.
 module _ (family : ℕ) (bs : List ℕ) where
-  step : (fuel at : ℕ) → ((next-at : ℕ) → length bs < next-at + fuel → shortestFrame * length (left family bs next-at) ≤ length bs - next-at)
-      → length bs < at + suc fuel → (x : First) → firstFrom family bs at ≡ x → shortestFrame * length (left family bs at) ≤ length bs - at
-  step fuel at more h Nothing e = rw (no-next family bs at e) (omega arith)
+  abbrev least : ℕ → ℕ
+  least at = shortest family * length (left family bs at)
+
+  step : (fuel at : ℕ) → ((next-at : ℕ) → length bs < next-at + fuel → least next-at ≤ length bs - next-at)
+      → length bs < at + suc fuel → (x : First) → firstFrom family bs at ≡ x → least at ≤ length bs - at
+  step fuel at more h Nothing e = rw (no-next family bs at e, mul-zero) (omega arith)
   step fuel at more h (At start long f) e =
       let n : Next family bs at start long f = next family bs at start long f e in
-      let rest : shortestFrame * length (left family bs (start + long)) ≤ length bs - (start + long) = more (start + long) (omega (arith, n .place, n .some)) in
-      omega (arith, ap length (n .lists), rest, n .long, n .there, n .place)
+      let rest : least (start + long) ≤ length bs - (start + long) = more (start + long) (omega (arith, n .place, n .some)) in
+      let one-more : least at ≡ least (start + long) + shortest family =
+      ap (λ (fs : List Found). shortest family * length fs) (n .lists) ∙ mul-suc (shortest family) (length (left family bs (start + long))) in
+      omega (arith, one-more, rest, n .long, n .there, n .place)
 
-  from-there : (fuel at : ℕ) → length bs < at + fuel → shortestFrame * length (left family bs at) ≤ length bs - at
-  from-there zero at h = rw (at-end family bs at (omega arith)) (omega arith)
+  from-there : (fuel at : ℕ) → length bs < at + fuel → least at ≤ length bs - at
+  from-there zero at h = rw (at-end family bs at (omega arith), mul-zero) (omega arith)
   from-there (suc fuel) at h = step fuel at (from-there fuel) h (firstFrom family bs at) refl
 
-  pub few-frames : shortestFrame * length (frames family bs) ≤ length bs
+  pub few-frames : shortest family * length (frames family bs) ≤ length bs
   few-frames = omega (arith, from-there (suc (length bs)) 0 (omega arith))

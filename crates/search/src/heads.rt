@@ -1,13 +1,12 @@
 // What is known of a start before a frame is read there: a bad start with the number of bytes that settled
 // it, an undecided one, or as many bytes as a frame there has. The frame is read by whoever wants it.
-use rules::LONGEST_PAYLOAD;
 use starts::bytes_needed;
+use starts::inner_bytes;
 use starts::mark_of;
-use starts::payload_bytes;
+use stream_rules::Brackets;
 ghost use mathlib.Core.Path.{_≡_};
-ghost use mathlib.Core.Bool.{true};
-ghost use Rattle.rules.specs.Answers.{sentences};
-ghost use Rattle.stream_rules.specs.Heads.{isSpe};
+ghost use mathlib.Core.Bool.{true, false};
+ghost use Rattle.stream_rules.specs.Heads.{isSpe, bracketsOf};
 ghost use Rattle.search.specs.Seen.{seen};
 
 pub(crate) enum Seen {
@@ -55,28 +54,30 @@ pub(crate) fn examine_packet(family: u8, s: &[u8]) -> Seen
     Seen::Whole(n)
 }
 
-// A start of the Alpha's family.
-pub(crate) fn examine_sentence(s: &[u8]) -> Seen
-    ensures { λ r. ⌜ r ≡ seen sentences (now (s .entry)) ⌝ }
+// A start between brackets, those of its family.
+pub(crate) fn examine_bracketed(family: u8, k: Brackets, s: &[u8]) -> Seen
+    requires { ⌜ (isSpe family ≡ false) × (k ≡ bracketsOf family) ⌝ }
+    ensures { λ r. ⌜ r ≡ seen family (now (s .entry)) ⌝ }
 {
     if s.len() == 0 {
         return Seen::Undecided;
     }
-    if s[0] != b'$' {
+    if s[0] != k.opening {
         return Seen::Bad(1);
     }
-    let n = payload_bytes(&s[1..]);
-    if LONGEST_PAYLOAD < n {
-        return Seen::Bad(130);
+    let n = inner_bytes(k, &s[1..]);
+    if k.most < n {
+        return Seen::Bad(k.most + 2);
     }
     if s.len() <= n + 1 {
         return Seen::Undecided;
     }
-    if s[n + 1] != b'*' {
+    if s[n + 1] != k.closing {
         return Seen::Bad(n + 2);
     }
-    if s.len() < n + 6 {
+    let whole = n + 2 + k.tail;
+    if s.len() < whole {
         return Seen::Undecided;
     }
-    Seen::Whole(n + 6)
+    Seen::Whole(whole)
 }

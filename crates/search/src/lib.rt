@@ -4,8 +4,8 @@
 mod heads;
 
 use crate::heads::Seen;
+use crate::heads::examine_bracketed;
 use crate::heads::examine_packet;
-use crate::heads::examine_sentence;
 use frames::read_frame;
 use rules::COMMANDS;
 use rules::Frame;
@@ -15,6 +15,7 @@ use rules::Reading;
 use spe::ends_report;
 use spe::is_ack;
 use spe::is_command;
+use starts::brackets_of;
 use starts::is_spe;
 use starts::mark_of;
 use texts::further;
@@ -22,7 +23,7 @@ ghost use mathlib.Core.Path.{_≡_};
 ghost use mathlib.Core.Bool.{true, false};
 ghost use Prim.Native.Nat.{_≤_, _<_};
 ghost use lib.ListN.{length, getD};
-ghost use Rattle.rules.specs.Answers.{sentences, isGood, readOne};
+ghost use Rattle.rules.specs.Answers.{isGood, readOne};
 ghost use Rattle.stream_rules.specs.Heads.{isSpe};
 ghost use Rattle.search.specs.Sought.{soughtIn, firstFrom, Unmarked, Stops};
 
@@ -164,19 +165,21 @@ fn packet_stop(family: u8, s: &[u8], from: usize, far: usize) -> Stop
     }
 }
 
-// The same of sentences. Before the byte that settled a bad one there is no other `$`; and what settles a start
+// The same between brackets. Before the byte that settled a bad start there is no other opening byte; and what settles a start
 // never reaches behind a frame that starts later.
-fn sentence_stop(s: &[u8], from: usize, far: usize) -> Stop
-    ensures { λ r. ⌜ Stops sentences (now (s .entry)) from far r ⌝ }
+fn bracket_stop(family: u8, s: &[u8], from: usize, far: usize) -> Stop
+    requires { ⌜ isSpe family ≡ false ⌝ }
+    ensures { λ r. ⌜ Stops family (now (s .entry)) from far r ⌝ }
 {
+    let k = brackets_of(family);
     let mut at = from;
     while at < s.len() {
         // most starts are bad by their first byte
-        if s[at] != b'$' {
+        if s[at] != k.opening {
             at += 1;
             continue;
         }
-        match examine_sentence(&s[at..]) {
+        match examine_bracketed(family, k, &s[at..]) {
             Seen::Whole(length) => return Stop {
                 at,
                 length,
@@ -207,7 +210,7 @@ pub fn next_stop(family: u8, s: &[u8], from: usize, far: usize) -> Stop
     if is_spe(family) {
         return packet_stop(family, s, from, far);
     }
-    sentence_stop(s, from, far)
+    bracket_stop(family, s, from, far)
 }
 
 // The first start that is not bad.

@@ -1,5 +1,6 @@
 // The numbers of the families.
 use rules::COMMANDS;
+use rules::MESSAGES;
 use rules::REPLIES;
 use rules::SENTENCES;
 ghost use mathlib.Core.Path.{_≡_};
@@ -17,5 +18,5 @@ pub fn is_spe(family: u8) -> bool
 pub fn is_family(family: u8) -> bool
     ensures { λ r. ⌜ r ≡ isFamily family ⌝ }
 {
-    is_spe(family) | (family == SENTENCES)
+    is_spe(family) | (family == SENTENCES) | (family == MESSAGES)
 }

@@ -1,24 +1,22 @@
-// What a start is known by: the mark of its family, how many bytes it needs and the longest frame, and the payload bytes
-// behind a dollar sign.
-use checksums::payload_byte;
+// What a start of an SPE packet is known by: the mark of its family, and how many bytes it needs; and the longest and the
+// shortest frame of any family.
+use crate::families::is_spe;
 use rules::CODE_COUNT;
 use rules::COMMAND_MARK;
 use rules::COMMANDS;
-use rules::LONGEST_PAYLOAD;
+use rules::LONGEST_MESSAGE;
 use rules::LONGEST_REPORT;
 use rules::LONGEST_SENTENCE;
+use rules::MESSAGES;
 use rules::PACKET_LENGTH;
 use rules::REPLIES;
 use rules::REPLY_MARK;
 use rules::REPORT_COUNT;
+use rules::SHORTEST_MESSAGE;
+use rules::SHORTEST_SENTENCE;
 use spe::report_length;
-use texts::text;
 ghost use mathlib.Core.Path.{_≡_};
-ghost use Prim.Native.Nat.{min};
-ghost use lib.ListN.{length};
-ghost use Rattle.rules.specs.Bytes.{every};
-ghost use Rattle.rules.specs.Sentences.{isPayloadByte};
-ghost use Rattle.stream_rules.specs.Heads.{markOf, needs, longest, payloadRun};
+ghost use Rattle.stream_rules.specs.Heads.{markOf, needs, longest, shortest};
 
 // The mark of an SPE family.
 pub fn mark_of(family: u8) -> u8
@@ -58,75 +56,21 @@ pub fn longest_frame(family: u8) -> usize
     if family == COMMANDS {
         return PACKET_LENGTH;
     }
+    if family == MESSAGES {
+        return LONGEST_MESSAGE;
+    }
     LONGEST_SENTENCE
 }
 
-// Whether a block of 16 bytes is all payload bytes.
-fn all_payload(block: &[u8]) -> bool
-    requires { ⌜ length (now block) ≡ 16 ⌝ }
-    ensures { λ r. ⌜ r ≡ every isPayloadByte (now (block .entry)) ⌝ }
+// The shortest frame of a family.
+pub fn shortest_frame(family: u8) -> usize
+    ensures { λ r. ⌜ r ≡ shortest family ⌝ }
 {
-    let mut good = true;
-    let mut i = 0;
-    while i < 16 {
-        good = good & payload_byte(block[i]);
-        i += 1;
+    if is_spe(family) {
+        return PACKET_LENGTH;
     }
-    good
-}
-
-// How many payload bytes the bytes begin with, byte by byte.
-fn run_by_bytes(p: &[u8]) -> usize
-    ensures { λ r. ⌜ r ≡ length (payloadRun (now (p .entry))) ⌝ }
-{
-    let mut n = 0;
-    while n < p.len() {
-        if !payload_byte(p[n]) {
-            return n;
-        }
-        n += 1;
+    if family == MESSAGES {
+        return SHORTEST_MESSAGE;
     }
-    n
-}
-
-// The same by blocks of 16, as long as there is one that is all payload bytes.
-fn run_by_blocks(p: &[u8]) -> usize
-    ensures { λ r. ⌜ r ≡ length (payloadRun (now (p .entry))) ⌝ }
-{
-    let mut n = 0;
-    while 16 <= p.len() - n {
-        if !all_payload(&p[n..n + 16]) {
-            break;
-        }
-        n += 16;
-    }
-    n + run_by_bytes(&p[n..])
-}
-
-// A byte more than a payload may have: more are not counted.
-const COUNTED_TO: usize = LONGEST_PAYLOAD + 1;
-
-// How many payload bytes the bytes begin with, counted to 129.
-pub fn payload_bytes(p: &[u8]) -> usize
-    ensures { λ r. ⌜ r ≡ min (length (payloadRun (now (p .entry)))) 129 ⌝ }
-{
-    run_by_blocks(text(p, 0, COUNTED_TO))
-}
-
-// Whether all of the bytes are payload bytes. The last 16 are seen as a block, which may overlap the one before it.
-pub fn is_payload(p: &[u8]) -> bool
-    ensures { λ r. ⌜ r ≡ every isPayloadByte (now (p .entry)) ⌝ }
-{
-    let n = p.len();
-    if n < 16 {
-        return run_by_bytes(p) == n;
-    }
-    let mut at = 0;
-    while 16 < n - at {
-        if !all_payload(&p[at..at + 16]) {
-            return false;
-        }
-        at += 16;
-    }
-    all_payload(&p[n - 16..])
+    SHORTEST_SENTENCE
 }

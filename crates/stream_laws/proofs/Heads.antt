@@ -1,6 +1,6 @@
 -- What holds of the head of any list of bytes, in every family: what a good frame says of the bytes, that more bytes change
 -- nothing decided, how many bytes decide, and that no good frame is missed.
--- A start is an SPE start or a sentence's, or one of no family, and from its course the rest follows, whatever the family.
+-- A start is an SPE start or one between brackets, and from its course the rest follows, whatever the family.
 -- Assumes nothing.
 use Prim.Native.Nat.{ℕ, _<_, _≤_}
 use mathlib.Core.Path.{_≡_, sym, ap, _∙_}
@@ -9,38 +9,23 @@ use mathlib.Core.List.{List, [], _++_}
 use mathlib.Core.Logic.{_⊎_, ⊎-elim}
 use native.Mathlib.Decide.{decLt}
 use native.Mathlib.Omega.{arith}
+use lib.Dec.{eqb}
 use lib.ListN.{length, take}
 use lib.Seq.{take-length, take-append-seam}
 use Rattle.rules.specs.Codes.{packetLength}
 use Rattle.rules.specs.Sentences.{shortestSentence}
-use Rattle.rules.specs.Answers.{readOne}
+use Rattle.rules.specs.Messages.{shortestMessage}
+use Rattle.rules.specs.Answers.{messages, readOne}
 use Rattle.rules.specs.declared.Frame.{Frame}
 use Rattle.rules.specs.declared.Reading.the-variants.{Good}
 use Rattle.stream_rules.specs.Heads.{isSpe, shortest, shortestFrame, longest, lengthAt, Head, wait, bad, good, head}
 use Rattle.stream_laws.specs.Settled.{settled}
-use Rattle.stream_laws.proofs.Numbers.{Stranger, Number, of-packets, of-sentences, of-none, number, refuses, longest-same, settled-same, waits-too, bad-else}
+use Rattle.stream_laws.proofs.Numbers.{Number, of-packets, of-brackets, number}
 use Rattle.stream_laws.proofs.Course.{Settles, Course, waits, turns-bad, is-whole, headOf-decided, headOf-good}
 use Rattle.stream_laws.proofs.PacketStarts as Packet
 use Rattle.stream_laws.proofs.PacketCourse
-use Rattle.stream_laws.proofs.SentenceStarts as Sentence
-use Rattle.stream_laws.proofs.SentenceCourse
-
--- The course of a start of no family: where a sentence would be undecided it is, and from then on it is bad.
-module _ (family : ℕ) (stranger : Stranger family) (bs : List ℕ) where
-  settles-bad : (s : ℕ) (h : Head) → Settles 2 bs s h → (h ≡ wait → ⊥) → Settles family bs s bad
-  settles-bad s h k decided = record {
-    some = k .some;
-    there = k .there;
-    short = rw (longest-same family stranger) (k .short);
-    before = λ m low. waits-too family stranger (take m bs) (k .before m low);
-    after = λ m enough. bad-else family stranger (take m bs) (λ w. decided (sym (k .after m enough) ∙ w));
-    counted = settled-same family stranger bs ∙ k .counted;
-  }
-
-  no-course : Course 2 bs → Course family bs
-  no-course (waits before short) = waits (λ m. waits-too family stranger (take m bs) (before m)) (rw (longest-same family stranger) short)
-  no-course (turns-bad s k) = turns-bad s (settles-bad s bad k (λ w. let z : _≡_ {A = ℕ} 0 1 = cc in omega arith))
-  no-course (is-whole n l k) = turns-bad n (settles-bad n _ k (headOf-decided n (readOne 2 (take n bs))))
+use Rattle.stream_laws.proofs.BracketStarts as Bracket
+use Rattle.stream_laws.proofs.BracketCourse
 
 -- The course of any start.
 course : (family : ℕ) (bs : List ℕ) → Course family bs
@@ -48,8 +33,7 @@ course family bs = by (number family)
   where
     by : Number family → Course family bs
     by (of-packets is) = PacketCourse.course family is bs
-    by (of-sentences is) = rw is (SentenceCourse.course bs)
-    by (of-none stranger) = no-course family stranger bs (SentenceCourse.course bs)
+    by (of-brackets is) = BracketCourse.course family is bs
 
 -- Every good frame at the head is found, so the length that is declared there hides none.
 pub complete : (family : ℕ) (bs : List ℕ) (n : ℕ) (f : Frame) → n ≤ length bs → readOne family (take n bs) ≡ Good f → head family bs ≡ good n f
@@ -57,8 +41,7 @@ complete family bs n f there = by (number family)
   where
     by : Number family → readOne family (take n bs) ≡ Good f → head family bs ≡ good n f
     by (of-packets is) e = Packet.complete family is bs n f there e
-    by (of-sentences is) e = rw is (Sentence.complete bs n f there (rw is at e))
-    by (of-none stranger) e = cc (refuses family stranger (take n bs))
+    by (of-brackets is) e = Bracket.complete family is bs n f there e
 
 -- No good frame is shorter than its family's shortest, and none than the shortest of all families.
 at-least : (family : ℕ) (bs : List ℕ) (n : ℕ) (f : Frame) → n ≤ length bs → readOne family (take n bs) ≡ Good f → shortest family ≤ n
@@ -66,15 +49,15 @@ at-least family bs n f there = by (number family)
   where
     by : Number family → readOne family (take n bs) ≡ Good f → shortest family ≤ n
     by (of-packets is) e = rw is (Packet.at-least family is bs n f there e)
-    by (of-sentences is) e = rw is (Sentence.at-least bs n f there (rw is at e))
-    by (of-none stranger) e = let z : _≡_ {A = ℕ} 0 1 = cc (refuses family stranger (take n bs)) in absurd (omega arith)
+    by (of-brackets is) e = Bracket.at-least family is bs n f there e
 
 pub shortest-of-all : (family : ℕ) → shortestFrame ≤ shortest family
-shortest-of-all family = by (isSpe family)
+shortest-of-all family = by (isSpe family) (eqb family messages)
   where
-    by : (b : Bool) → shortestFrame ≤ cond b packetLength shortestSentence
-    by true = omega arith
-    by false = omega arith
+    by : (a b : Bool) → shortestFrame ≤ cond a packetLength (cond b shortestMessage shortestSentence)
+    by true b = omega arith
+    by false true = omega arith
+    by false false = omega arith
 
 -- A bad start, or an undecided one, is no frame: none of its fronts is good.
 pub no-frame : (family : ℕ) (bs : List ℕ) → (head family bs ≡ bad) ⊎ (head family bs ≡ wait)

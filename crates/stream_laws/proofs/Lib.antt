@@ -1,4 +1,5 @@
--- Laws of the head of a list of bytes: how a start is decided, for a packet, for a sentence, and for any family.
+-- Laws of the head of a list of bytes: how a start is decided, for a packet, for a frame between brackets, and for any
+-- family.
 -- Laws for code that looks at many bytes at once. `Starts` is for a walk over the starts of a list, `Calls` for the answer
 -- of a call, and `Jump` for how many bytes a call takes.
 -- Demand 3. `Facts` is what a family owes. Over any family that has them, `Looks` and `Calls` say what a call does,
@@ -11,8 +12,9 @@ pub mod Numbers
 pub mod PacketStarts
 pub mod PacketCourse
 pub mod Runs
-pub mod SentenceStarts
-pub mod SentenceCourse
+pub mod Bracketed
+pub mod BracketStarts
+pub mod BracketCourse
 pub mod Heads
 pub mod Families
 pub mod Starts

@@ -21,7 +21,7 @@ use Rattle.rules.specs.declared.Reading.the-variants.{Good}
 use Rattle.frame_laws.proofs.Bytes.{tests, same-eq, cond-cases}
 use Rattle.frame_laws.proofs.Comma.{at-most-one, comma-in-front, report-length}
 use Rattle.frame_laws.proofs.Form.{in-frame}
-use Rattle.stream_rules.specs.Heads.{isSpe, longest, markOf, countOf, needs, spe-undecided, undecided, wait, bad, good, headOf, head}
+use Rattle.stream_rules.specs.Heads.{isSpe, longest, markOf, countOf, needs, spe-undecided, undecided, wait, bad, good, headOf, head, sentenceBrackets, messageBrackets, bracketsOf, around}
 use Rattle.stream_laws.specs.Settled.{spe-settled, settled}
 use Rattle.stream_laws.proofs.Lists.{every-at, fails-at, front-at, front-and-rest}
 use Rattle.stream_laws.proofs.Course.{passed, headOf-bad}
@@ -39,10 +39,14 @@ needs-six family bs = by-tests (eqb (countOf bs) 0x01) (eqb family 1 && eqb (cou
 pub needs-longest : (family : ℕ) (bs : List ℕ) → needs family bs ≤ longest family
 needs-longest family bs = by-tests (eqb (countOf bs) 0x01) (eqb family 1) (eqb (countOf bs) 0x43) (eqb family 3)
   where
-    by-tests : (a b c d : Bool) → cond a 6 (cond (b && c) (reportLengthIn bs) 0) ≤ cond b 76 (cond d 6 134)
+    others : (e : Bool) → let k = cond e messageBrackets sentenceBrackets in 6 ≤ around k (k .most)
+    others true = lit≤ tt
+    others false = lit≤ tt
+
+    by-tests : (a b c d : Bool) → cond a 6 (cond (b && c) (reportLengthIn bs) 0) ≤ cond b 76 (cond d 6 (around (bracketsOf family) (bracketsOf family .most)))
     by-tests true true c d = lit≤ tt
     by-tests true false c true = lit≤ tt
-    by-tests true false c false = lit≤ tt
+    by-tests true false c false = others (eqb family 4)
     by-tests false true true d = omega (arith, at-most-one bs)
     by-tests false true false d = lit≤ tt
     by-tests false false c d = omega arith

@@ -11,7 +11,7 @@ use lib.Dec.{eqb, leb}
 use lib.ListN.{length, replicate, length-append, length-replicate, length-take}
 use lib.Seq.{take-append-seam}
 use Rattle.rules.specs.Answers.{noFamily, isFamily}
-use Rattle.stream_rules.specs.Heads.{longest, head, atClose}
+use Rattle.stream_rules.specs.Heads.{sentenceBrackets, messageBrackets, around, longest, head, atClose}
 use Rattle.stream_rules.specs.Rule.{Look, ready, waiting, look, Call, gives, wants, call}
 use Rattle.stream_rules.specs.Streams.{wrap, holds, heldOf, holding, isClosed, holdsTooMuch, refuse, goOn, openCall, closedCall, fed, shut, fresh}
 use Rattle.stream_rules.specs.declared.Reader.{Reader}
@@ -30,12 +30,13 @@ wrap-on a b = mod-add-mod a (2 ^ 32) b
 
 -- No family's longest frame has more than 134 bytes, so the held bytes have room.
 pub longest-fits : (family : ℕ) → longest family ≤ 134
-longest-fits family = go (eqb family 1) (eqb family 3)
+longest-fits family = go (eqb family 1) (eqb family 3) (eqb family 4)
   where
-    go : (a b : Bool) → cond a 76 (cond b 6 134) ≤ 134
-    go true b = omega arith
-    go false true = omega arith
-    go false false = omega arith
+    go : (a b c : Bool) → let k = cond c messageBrackets sentenceBrackets in cond a 76 (cond b 6 (around k (k .most))) ≤ 134
+    go true b c = omega arith
+    go false true c = omega arith
+    go false false true = omega arith
+    go false false false = omega arith
 
 -- The state made from a list of bytes holds these bytes.
 pub held-of-holding : (family closed : ℕ) (bytes : List ℕ) (at skipped : ℕ) → heldOf (holding family closed bytes at skipped) ≡ bytes

@@ -24,11 +24,14 @@ abbrev pub isSpe : ℕ → Bool
 isSpe family = eqb family replies || eqb family commands
 
 -- A sentence is `$`, a payload, `*` and four digits; a message is a caret, a body and a semicolon.
+abbrev pub sentenceBrackets : Brackets
+sentenceBrackets = record { opening = code "$"; closing = code "*"; most = longestPayload; tail = 4 }
+
+abbrev pub messageBrackets : Brackets
+messageBrackets = record { opening = code "^"; closing = code ";"; most = longestBody; tail = 0 }
+
 abbrev pub bracketsOf : ℕ → Brackets
-bracketsOf family =
-    cond (eqb family messages)
-    (record { opening = code "^"; closing = code ";"; most = longestBody; tail = 0 })
-    (record { opening = code "$"; closing = code "*"; most = longestPayload; tail = 4 })
+bracketsOf family = cond (eqb family messages) messageBrackets sentenceBrackets
 
 -- so many bytes has a frame of the brackets around n others
 abbrev pub around : Brackets → ℕ → ℕ

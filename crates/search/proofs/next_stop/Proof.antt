@@ -2,7 +2,6 @@
 -- Assumes nothing.
 use mathlib.Core.Path.{sym, _∙_}
 use borrow.Author.Needs.{needs}
-use Rattle.search.proofs.Stopping.{stops-other}
 use Rattle.search.proofs.next_stop.Statement.{statement}
 use Rattle.search.proofs.next_stop.Tie as tie
 
@@ -15,14 +14,11 @@ packet-stop-requires c κs = sym (c .before .is-spe .ensures) ∙ c .if1 .taken
 returns : tie.Need-returns
 returns c = search needs
 
-sentence-stop-requires : tie.Need-sentence-stop-requires
-sentence-stop-requires c κs = search needs
+bracket-stop-requires : tie.Need-bracket-stop-requires
+bracket-stop-requires c κs = sym (c .before .is-spe .ensures) ∙ c .if1 .left
 
 returns-2 : tie.Need-returns-2
-returns-2 c =
-    let test = c .before .before in
-    let a = test .before .before .args in
-    stops-other (a .family) (sym (test .is-spe .ensures) ∙ c .before .if1 .left) (a .s .now) (a .from) (a .far) (c .sentence-stop .result) (c .sentence-stop .ensures)
+returns-2 c = search needs
 
 pub next-stop-spec : {M : Type 1} → statement M
-next-stop-spec = tie.close (tie.spec is-spe-requires packet-stop-requires returns sentence-stop-requires returns-2)
+next-stop-spec = tie.close (tie.spec is-spe-requires packet-stop-requires returns bracket-stop-requires returns-2)

@@ -174,7 +174,7 @@ module _ (c : tie.After-passed-with Inv-loop μ-loop) where
   stepped : Walks (family left-turn) (bytes left-turn) (from left-turn) (far left-turn) (at left-turn + c .passed-with .result) (reach left-turn)
   stepped =
       let bad-here = broken (c .before) in
-      over left-turn (c .passed-with .result) (omega (arith, step)) (bad-here .0, omega (arith, bad-here .1))
+      over left-turn (c .passed-with .result) (omega (arith, step)) (bad-here .0, omega (arith, bad-here .1, step .0))
       (λ j p q.
       elim (decLt left 4) [
         | yes few ↦ absurd (omega (arith, c .passed-with .ensures .1 few))

@@ -1,6 +1,7 @@
 -- `lister::lists::list_frames` meets its contract: its three tests are the refusals, in their order.
 -- Assumes nothing.
-use Prim.Native.Nat.{ℕ, _/_, _≤_}
+use Prim.Native.Nat.{ℕ, _/_, _≤_, _<_}
+use native.Mathlib.Nat.{le-div-iff-mul-le, mul-comm}
 use mathlib.Core.Path.{_≡_, sym, ap, _∙_}
 use mathlib.Core.Bool.{Bool, true, false, _&&_, cond, not}
 use mathlib.Core.List.{List, _++_}
@@ -10,12 +11,13 @@ use borrow.Author.Tests.{not-true, not-false, le-leb, lt-leb}
 use lib.Dec.{leb}
 use lib.ListN.{length, drop}
 use Rattle.rules.specs.Answers.{isFamily}
-use Rattle.stream_rules.specs.Heads.{shortestFrame}
+use Rattle.stream_rules.specs.Heads.{shortest}
 use Rattle.stream_rules.specs.Lister.{frames, startsOf, fits, Lists}
 use Rattle.stream_rules.specs.declared.Listed.{Listed}
 use Rattle.stream_rules.specs.declared.Listed.the-variants.{Count, Refused}
 use Rattle.stream_laws.proofs.Saying.{lists}
 use Rattle.lister.specs.Fills.{Fills}
+use Rattle.stream_laws.proofs.Heads.{shortest-of-all}
 use Rattle.search.proofs.Walk.{few-frames}
 use Rattle.lister.proofs.lists.list_frames.Statement.{statement}
 use Rattle.lister.proofs.lists.list_frames.Tie as tie
@@ -45,9 +47,15 @@ module _ (family : ℕ) (bs out : List ℕ) where
   counts e g r n left count content =
       lists (ap Count count ∙ (λ i. answer (sym e i) (sym g i) (sym r i))) (content ∙ (λ i. after (sym e i) (sym g i) (sym r i)))
 
--- where as many places are lent as the bytes have room for frames, there is room
-room-for-all : (family : ℕ) (bs out : List ℕ) → length bs / shortestFrame ≤ length out → length (frames family bs) ≤ length out
-room-for-all family bs out h = omega (arith, few-frames family bs, h)
+-- where as many places are lent as the bytes have room for the family's frames, there is room
+some-bytes : (family : ℕ) → 0 < shortest family
+some-bytes family = omega (arith, shortest-of-all family)
+
+room-for-all : (family : ℕ) (bs out : List ℕ) → length bs / shortest family ≤ length out → length (frames family bs) ≤ length out
+room-for-all family bs out h =
+    let all = length (frames family bs) in
+    let few : all ≤ length bs / shortest family = le-div-iff-mul-le (some-bytes family) .1 (omega (arith, few-frames family bs, mul-comm all (shortest family))) in
+    omega (arith, few, h)
 
 -- where the family's test has been passed
 a-family : (c : tie.Else1) → isFamily (c .before .before .before .before .args .family) ≡ true
@@ -90,8 +98,14 @@ returns-2 c =
     let a = c .before .before .before .before .before .args in
     too-long (a .family) (a .capture .now) (a .starts .now) (a-family (c .before)) (lt-leb (length (a .capture .now)) 65536 (c .if2 .taken))
 
+shortest-frame-requires : tie.Need-shortest-frame-requires
+shortest-frame-requires c κs = search needs
+
+div-if3 : tie.Need-div-if3
+div-if3 c = omega (arith, c .shortest-frame .ensures, some-bytes (c .before .before .before .before .before .before .args .family))
+
 fill-starts-requires : tie.Need-fill-starts-requires
-fill-starts-requires c κs = (a-family (c .before .before .before), c .before .before .if2 .left)
+fill-starts-requires c κs = (a-family (c .before .before .before .before), c .before .before .before .if2 .left)
 
 same-length : tie.Need-same-length
 same-length c = search needs
@@ -99,20 +113,21 @@ same-length c = search needs
 returns-3 : tie.Need-returns-3
 returns-3 c =
     let roomy = c .before .before .before .before in
-    let k = roomy .before in
-    answered k _ _ (c .before .before .fill-starts .ensures) (room-for-all (family k) (capture k) (starts k) (roomy .if3 .taken))
+    let k = roomy .before .before in
+    let enough = ap (λ (m : ℕ). length (capture k) / m) (roomy .before .shortest-frame .ensures) in
+    answered k _ _ (c .before .before .fill-starts .ensures) (room-for-all (family k) (capture k) (starts k) (omega (arith, enough, roomy .if3 .taken)))
 
 count-frames-requires : tie.Need-count-frames-requires
-count-frames-requires c κs = (a-family (c .before .before), c .before .if2 .left)
+count-frames-requires c κs = (a-family (c .before .before .before), c .before .before .if2 .left)
 
 returns-4 : tie.Need-returns-4
 returns-4 c =
-    let k = c .before .before .before in
+    let k = c .before .before .before .before in
     no-room (family k) (capture k) (starts k) (known k) (fit k)
     (lt-leb (all k) (length (starts k)) (omega (arith, c .if4 .taken, c .before .count-frames .ensures)))
 
 fill-starts-requires-2 : tie.Need-fill-starts-requires-2
-fill-starts-requires-2 c κs = (a-family (c .before .before .before .before .before), c .before .before .before .before .if2 .left)
+fill-starts-requires-2 c κs = (a-family (c .before .before .before .before .before .before), c .before .before .before .before .before .if2 .left)
 
 same-length-2 : tie.Need-same-length-2
 same-length-2 c = search needs
@@ -120,7 +135,7 @@ same-length-2 c = search needs
 returns-5 : tie.Need-returns-5
 returns-5 c =
     let enough = c .before .before .before .before in
-    let k = enough .before .before .before in
+    let k = enough .before .before .before .before in
     let room-there : all k ≤ length (starts k) = omega (arith, enough .if4 .left, enough .before .count-frames .ensures) in
     answered k _ _ (c .before .before .fill-starts2 .ensures) room-there
 
@@ -131,6 +146,8 @@ list-frames-spec =
     is-family-requires
     returns
     returns-2
+    shortest-frame-requires
+    div-if3
     fill-starts-requires
     same-length
     returns-3

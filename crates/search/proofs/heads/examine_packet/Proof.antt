@@ -101,6 +101,7 @@ module _ (c : tie.After-bytes-needed) where
       by-whole (family k) (bytes k) declared
       (all-there (family k) (spe k) (bytes k) there (three found) declared is-declared some enough)
       (counted (family k) (spe k) (bytes k) ∙ is-declared)
+      (rw (spe k))
 
 mark-of-requires : tie.Need-mark-of-requires
 mark-of-requires c κs = search kit
