@@ -1,19 +1,20 @@
 -- The frame around a body: a caret, a semicolon, and a body of the right length that begins with a letter. What a message has,
 -- and what makes one.
 -- Assumes nothing.
-use Prim.Native.Nat.{ℕ, suc, _+_, _-_, _≤_, _<_}
-use mathlib.Core.Path.{_≡_, refl, sym, ap, ap₂, _∙_}
-use mathlib.Core.Bool.{Bool, true, false, _&&_, and-true}
+use Prim.Native.Nat.{ℕ, suc, _+_, _-_, _≤_}
+use mathlib.Core.Path.{_≡_, sym, ap, ap₂, _∙_}
+use mathlib.Core.Bool.{true, false, and-true}
 use mathlib.Core.List.{List, [], _∷_, _++_}
 use mathlib.Core.Logic.{⊎-elim}
 use native.Mathlib.Omega.{arith}
 use lib.ListN.{length, drop, getD, length-drop, take-append-drop}
 use lib.Seq.{length-take-le, drop-drop, getD-at, getD-drop, getD-take}
-use Rattle.rules.specs.Bytes.{between, every, first, part, same}
+use Rattle.rules.specs.Bytes.{every, first, part}
 use Rattle.rules.specs.Messages.{isBodyByte, isLetter, bodyOf, messageFrame, isBody, isMessage}
 use Rattle.rules.specs.Answers.{notGood, readBody, readFamily4}
 use Rattle.rules.specs.declared.Reading.the-variants.{Refused}
-use Rattle.frame_laws.proofs.Bytes.{both, answer, between-bounds, bounds-between, same-eq, eq-same}
+use Rattle.frame_laws.proofs.Bytes.{tests, answer, between-bounds, bounds-between, eq-same}
+use Rattle.frame_laws.proofs.Messages.{message-frame}
 use Rattle.texts.proofs.Steps.{at as from-place, done}
 
 -- What a message has.
@@ -35,17 +36,15 @@ module _ (bs : List ℕ) where
   unfolding isMessage isBody
   framed e =
       let body = bodyOf bs in
-      let f = both (same bs (messageFrame body)) (isBody body) e in
-      let g = both (between 1 38 (length body) && every isBodyByte body) (isLetter (first body)) (f .1) in
-      let size = between-bounds 1 38 (length body) (both (between 1 38 (length body)) (every isBodyByte body) (g .0) .0) in
-      let whole = same-eq bs (messageFrame body) (f .0) in
+      let size = between-bounds 1 38 (length body) (search tests) in
+      let whole = message-frame bs e in
       let last : length bs - 1 ≡ suc (length bs - 2) = omega (arith, body-length) in
       record {
         low = omega (arith, body-length);
         high = omega (arith, body-length);
         caret = ap (λ (l : List ℕ). getD l 0 0) whole;
         semicolon = ap (λ (l : List ℕ). getD l (length bs - 1) 0) whole ∙ rw last (getD-at body 59 [] 0 (length bs - 2) body-length);
-        letter = rw (← first-byte (omega (arith, body-length))) (g .1);
+        letter = rw (← first-byte (omega (arith, body-length))) (search tests);
       }
 
   pub not-framed : (Framed bs → ⊥) → isMessage bs ≡ false

@@ -1,4 +1,4 @@
--- Laws of letters and the numbers that hold them, of what stands behind letters, and of the frame.
+-- Laws of a body's letters as they are read, of what stands behind them, and of the frame.
 pub mod Words
 pub mod LastLetters
 pub mod Responses

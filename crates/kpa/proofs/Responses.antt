@@ -1,26 +1,27 @@
 -- What stands behind letters: a question where nothing does; and the digits of a number and of pairs, as they are read.
 -- By the clauses of the definitions. Assumes nothing.
 use Prim.Native.Nat.{ℕ, zero, suc, _+_, _*_, _^_, _≤_, _<_}
-use mathlib.Core.Path.{_≡_, refl, sym, ap, _∙_}
-use mathlib.Core.Bool.{Bool, true, false, _&&_, and-false}
+use mathlib.Core.Path.{_≡_, refl, _∙_}
+use mathlib.Core.Bool.{Bool, true, false, _&&_}
 use mathlib.Core.List.{List, [], _∷_}
 use mathlib.Core.Logic.{⊎-elim}
 use native.Mathlib.Nat.{lt-of-lt-of-le, pow-le-pow-right}
 use native.Mathlib.Omega.{arith}
 use lib.Dec.{eqb, lit<}
-use lib.ListN.{length, take, drop, getD, length-take, length-drop}
+use lib.ListN.{length, drop, getD, length-take, length-drop}
 use lib.Seq.{length-take-le, take-all, drop-drop, getD-drop}
-use borrow.Author.Tests.{eqb-true, eq-eqb, ne-eqb, le-leb, lt-leb}
+use borrow.Author.Tests.{eq-eqb, le-leb}
 use Rattle.rules.specs.Bytes.{between, every, part}
 use Rattle.rules.specs.Numbers.{isDigit, decimalFrom, decimal}
-use Rattle.rules.specs.Messages.{isNumber, arePairs, pairAt}
+use Rattle.rules.specs.Messages.{arePairs}
 use Rattle.rules.specs.Answers.{notGood, orQuestion, messageIf}
 use Rattle.rules.specs.declared.Message as MessageType
 use Rattle.rules.specs.declared.Message.the-variants.{Question}
 use Rattle.rules.specs.declared.Frame.the-variants.{Message}
 use Rattle.rules.specs.declared.Reading.{Reading}
 use Rattle.rules.specs.declared.Reading.the-variants.{Good, Refused}
-use Rattle.frame_laws.proofs.Bytes.{both, answer, every-take}
+use Rattle.frame_laws.proofs.Bytes.{both, tests, answer}
+use Rattle.frame_laws.proofs.Pairs.{pairs-front}
 use Rattle.frame_laws.proofs.Numbers.{ten-pos, decimal-below}
 use Rattle.texts.specs.Numbers.{digitsIn}
 use Rattle.texts.proofs.Steps.{at as from-place, done}
@@ -76,24 +77,14 @@ module _ (t : List ℕ) (a : ℕ) where
   pub pair-count : every isDigit (part a 2 t) ≡ true → digitsIn (part a 2 t) .count ≡ decimal (part a 2 t)
   pair-count e = digits-count (part a 2 t) (omega (arith, at-most-two)) e
 
--- Pairs with marks between them are as long as that, and each of them is digits.
-pub pairs-length : (cs t : List ℕ) → arePairs cs t ≡ true → length t ≡ 3 * length cs + 2
-unfolding arePairs
-pairs-length [] t e = eqb-true (length t) 2 (both (eqb (length t) 2) (every isDigit t) e .0)
-pairs-length (c ∷ cs) t e =
-    let h = pairs-length cs (drop 3 t) (both (every isDigit (take 2 t) && eqb (getD t 2 0) c) (arePairs cs (drop 3 t)) e .1) in
-    omega (arith, length-drop 3 t)
-
+-- Each pair with marks between them is digits.
 pub pairs-digits : (cs t : List ℕ) → arePairs cs t ≡ true → (k : ℕ) → k ≤ length cs → every isDigit (part (3 * k) 2 t) ≡ true
 unfolding arePairs
-pairs-digits [] t e zero h = every-take isDigit 2 t (both (eqb (length t) 2) (every isDigit t) e .1)
+pairs-digits cs t e zero h = pairs-front cs t e
 pairs-digits [] t e (suc k) h = absurd (omega arith)
-pairs-digits (c ∷ cs) t e zero h =
-    both (every isDigit (take 2 t)) (eqb (getD t 2 0) c) (both (every isDigit (take 2 t) && eqb (getD t 2 0) c) (arePairs cs (drop 3 t)) e .0) .0
 pairs-digits (c ∷ cs) t e (suc k) h =
     let q : 3 * suc k ≡ 3 + 3 * k = omega arith in
-    rw (q, ← drop-drop (3 * k) 3 t)
-    (pairs-digits cs (drop 3 t) (both (every isDigit (take 2 t) && eqb (getD t 2 0) c) (arePairs cs (drop 3 t)) e .1) k (omega arith))
+    rw (q, ← drop-drop (3 * k) 3 t) (pairs-digits cs (drop 3 t) (search tests) k (omega arith))
 
 -- One pair and its mark, and those from the next place on; and the last pair.
 module _ (cs t : List ℕ) (k : ℕ) where

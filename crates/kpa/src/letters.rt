@@ -3,7 +3,7 @@ use rules::Letters;
 use texts::text;
 ghost use mathlib.Core.Path.{_≡_};
 ghost use mathlib.Core.List.{map};
-ghost use Prim.Native.Nat.{_≤_, _/_, _%_, _^_};
+ghost use Prim.Native.Nat.{_≤_};
 ghost use lib.ListN.{length};
 ghost use Rattle.rules.specs.Messages.{isLetter, capital, letterRun, word, wordAt, wordLetters, asLetters};
 ghost use Rattle.kpa.specs.Words.{wordBytes};

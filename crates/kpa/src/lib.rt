@@ -26,9 +26,10 @@ ghost use mathlib.Core.Path.{_≡_};
 ghost use mathlib.Core.List.{map};
 ghost use mathlib.Core.Bool.{_&&_};
 ghost use Rattle.rules.specs.Bytes.{every, first};
-ghost use Rattle.rules.specs.Messages.{isBodyByte, isLetter, isMessage, capital, asLetters};
-ghost use Rattle.rules.specs.Answers.{messages, Reads, isGood, readBody};
+ghost use Rattle.rules.specs.Messages.{isBodyByte, isLetter, isMessage, capital, asLetters, behind};
+ghost use Rattle.rules.specs.Answers.{messages, Reads, isGood, readBehind, readBody};
 ghost use Rattle.rules.specs.declared.Frame.the-variants.{Message as FrameOf};
+ghost use Rattle.rules.specs.declared.Letters.{Letters};
 ghost use Rattle.rules.specs.declared.Message.the-variants.{OtherLetters};
 ghost use Rattle.rules.specs.declared.Reading.the-variants.{Good};
 
@@ -43,17 +44,38 @@ pub fn read_message(s: &[u8]) -> Reading
 }
 
 // Whether a body begins with a letter and says something good. Whoever asks knows that its bytes may stand in one, and how
-// many they may be.
+// many they may be. No letters that are not listed are laid out for it.
 pub fn is_good_body(body: &[u8]) -> bool
     ensures { λ r. ⌜ r ≡ (isLetter (first (now (body .entry))) && isGood (readBody (now (body .entry)))) ⌝ }
 {
-    if body.len() == 0 {
+    let n = letter_run(body);
+    if n == 0 {
         return false;
     }
-    if !is_letter(body[0]) {
-        return false;
+    if WORD_LETTERS < n {
+        return true;
     }
-    match read_body(body) {
+    is_good_behind(word_of(&body[..n]), &body[n..])
+}
+
+// Whether letters and what stands behind them are good, whatever the letters are told as.
+fn is_good_behind(letters: u32, t: &[u8]) -> bool
+    ensures { λ r. ⌜ ((w : Letters) → r ≡ isGood (readBehind letters w (behind letters) (now (t .entry)))) ⌝ }
+{
+    match behind_letters(letters) {
+        Behind::ANumber(width, limit) => is_good(read_number(letters, width, limit, t)),
+        Behind::AVersion => is_good(read_version(letters, t)),
+        Behind::AClock => is_good(read_clock(letters, t)),
+        Behind::Alone => is_good(read_tune(t)),
+        Behind::Anything => true,
+    }
+}
+
+// Whether an answer is a good message.
+fn is_good(answer: Reading) -> bool
+    ensures { λ r. ⌜ r ≡ isGood answer ⌝ }
+{
+    match answer {
         Reading::Good(_) => true,
         Reading::Refused(_) => false,
     }

@@ -21,7 +21,7 @@ shared-slice-read-if3 : tie.Need-shared-slice-read-if3
 shared-slice-read-if3 c = search needs
 
 returns-3 : tie.Need-returns-3
-returns-3 c = sym (not-framed (now (c .before .before .before .before .before .args .s)) (λ f. c .if3 .taken (f .caret)))
+returns-3 c = sym (not-framed (now (c .before .before .before .before .before .args .s)) (λ f. omega arith))
 
 sub-if4 : tie.Need-sub-if4
 sub-if4 c = search needs
@@ -30,7 +30,7 @@ shared-slice-read-if4 : tie.Need-shared-slice-read-if4
 shared-slice-read-if4 c = search needs
 
 returns-4 : tie.Need-returns-4
-returns-4 c = sym (not-framed (now (c .before .before .before .before .before .before .before .args .s)) (λ f. c .if4 .taken (f .semicolon)))
+returns-4 c = sym (not-framed (now (c .before .before .before .before .before .before .before .args .s)) (λ f. omega arith))
 
 shared-slice-read-is-letter : tie.Need-shared-slice-read-is-letter
 shared-slice-read-is-letter c = search needs
@@ -65,8 +65,8 @@ returns-6 c =
     let f : Framed (now (start .args .s)) = record {
       low = omega arith;
       high = omega arith;
-      caret = tested .before .before .before .before .before .if3 .left;
-      semicolon = tested .before .before .before .if4 .left;
+      caret = omega arith;
+      semicolon = omega arith;
       letter = sym (tested .before .is-letter .ensures) ∙ not-false _ (tested .if5 .left);
     } in
     c .are-body-bytes .ensures ∙ rw (the-body (now (start .args .s)) f) (sym (is-message (now (start .args .s)) f))

@@ -1,67 +1,85 @@
--- `kpa::is_good_body` meets its contract: it tells the answers apart. Where there is no byte, the rule reads a zero, which is no
--- letter.
+-- `kpa::is_good_body` meets its contract: a run of letters begins with one, more of them than a number holds are none of the
+-- listed ones, and what the others allow is told good or not.
 -- Assumes nothing.
 use Prim.Native.Nat.{ℕ}
 use mathlib.Core.Path.{_≡_, refl, sym, ap, _∙_}
-use mathlib.Core.Bool.{Bool, false, _&&_}
-use mathlib.Core.List.{List, [], _∷_}
+use mathlib.Core.Bool.{Bool, true, _&&_}
+use mathlib.Core.List.{List}
 use native.Mathlib.Omega.{arith}
+use denote.Ref.{now}
 use borrow.Author.Needs.{needs}
-use borrow.Author.Tests.{not-true, not-false}
-use lib.ListN.{length}
 use Rattle.rules.specs.Bytes.{first}
-use Rattle.rules.specs.Messages.{isLetter}
+use Rattle.rules.specs.Messages.{isLetter, lettersIn, asLetters}
 use Rattle.rules.specs.Answers.{isGood, readBody}
-use Rattle.rules.specs.declared.Reading.{Reading}
-use Rattle.rules.specs.declared.Reading.the-variants.{Good, Refused}
+use Rattle.kpa.proofs.Words.{some-letters, no-letters, run-size, run-within, told, told-other}
 use Rattle.kpa.proofs.is_good_body.Statement.{statement}
 use Rattle.kpa.proofs.is_good_body.Tie as tie
 
-no-letter : (body : List ℕ) → length body ≡ 0 → isLetter (first body) ≡ false
-unfolding isLetter
-no-letter [] none = refl
-no-letter (b ∷ body) none = absurd (omega arith)
+letter-run-requires : tie.Need-letter-run-requires
+letter-run-requires c κs = search needs
+
+abbrev body-of : tie.After-letter-run → List ℕ
+body-of c = now (c .before .before .args .body)
 
 returns : tie.Need-returns
 returns c =
-    let body = c .before .before .args .body .now in
-    sym (ap (λ (t : Bool). t && isGood (readBody body)) (no-letter body (c .if1 .taken)))
+    let body = body-of (c .before) in
+    sym (ap (λ (letter : Bool). letter && isGood (readBody body)) (no-letters body (omega (arith, c .before .letter-run .ensures))))
 
-shared-slice-read-is-letter : tie.Need-shared-slice-read-is-letter
-shared-slice-read-is-letter c = search needs
-
-is-letter-requires : tie.Need-is-letter-requires
-is-letter-requires c κs = search needs
+-- past the first test there is a letter
+first-letter : (c : tie.Else1) → isLetter (first (body-of (c .before))) ≡ true
+first-letter c = some-letters (body-of (c .before)) (omega (arith, c .before .letter-run .ensures))
 
 returns-2 : tie.Need-returns-2
 returns-2 c =
-    let body = c .before .before .before .before .before .args .body .now in
-    sym (ap (λ (t : Bool). t && isGood (readBody body)) (sym (c .before .is-letter .ensures) ∙ not-true _ (c .if2 .taken)))
+    let start = c .before .before in
+    rw (first-letter (c .before)) (ap isGood (told-other (body-of start) (start .letter-run .ensures) (omega arith)))
 
--- with a letter in front it is as the body says
-told : (c : tie.After-read-body) (r : Reading) → let body = c .before .before .before .before .before .before .args .body .now in
-    r ≡ readBody body → isGood r ≡ (isLetter (first body) && isGood (readBody body))
-told c r e =
-    let letter = c .before in
-    let body = letter .before .before .before .before .before .args .body .now in
-    ap isGood e ∙ sym (ap (λ (t : Bool). t && isGood (readBody body)) (sym (letter .before .is-letter .ensures) ∙ not-false _ (letter .if2 .left)))
+slice-aggregate-word-of : tie.Need-slice-aggregate-word-of
+slice-aggregate-word-of c =
+    let start = c .before .before .before in
+    run-size (body-of start) (start .letter-run .ensures)
 
-read-body-requires : tie.Need-read-body-requires
-read-body-requires c κs = search needs
+word-of-requires : tie.Need-word-of-requires
+word-of-requires c κs =
+    let start = c .before .before .before in
+    omega (arith, run-size (body-of start) (start .letter-run .ensures))
 
-enum-told : tie.Need-enum-told
-enum-told c = search needs
+sub-is-good-behind : tie.Need-sub-is-good-behind
+sub-is-good-behind c =
+    let start = c .before .before .before .before in
+    run-within (body-of start) (start .letter-run .ensures)
 
-enum-told-2 : tie.Need-enum-told-2
-enum-told-2 c = search needs
+part-is-good-behind-start : tie.Need-part-is-good-behind-start
+part-is-good-behind-start c =
+    let start = c .before .before .before .before in
+    run-within (body-of start) (start .letter-run .ensures)
+
+part-is-good-behind-end : tie.Need-part-is-good-behind-end
+part-is-good-behind-end c = search needs
+
+is-good-behind-requires : tie.Need-is-good-behind-requires
+is-good-behind-requires c κs = search needs
 
 returns-3 : tie.Need-returns-3
-returns-3 c = told (c .before .before) (Good _) (sym (c .enum-told .given .1) ∙ c .before .before .read-body .ensures)
-
-returns-4 : tie.Need-returns-4
-returns-4 c = told (c .before .before) (Refused _) (sym (c .enum-told2 .given .1) ∙ c .before .before .read-body .ensures)
+returns-3 c =
+    let read = c .before .before in
+    let start = read .before .before .before .before in
+    let body = body-of start in
+    c .is-good-behind .ensures (asLetters (lettersIn body))
+    ∙ rw (first-letter (read .before .before .before)) (ap isGood (told body (start .letter-run .ensures) (read .word-of .ensures) refl))
 
 pub is-good-body-spec : {M : Type 1} → statement M
 is-good-body-spec =
     tie.close
-    (tie.spec returns shared-slice-read-is-letter is-letter-requires returns-2 read-body-requires enum-told enum-told-2 returns-3 returns-4)
+    (tie.spec
+    letter-run-requires
+    returns
+    returns-2
+    slice-aggregate-word-of
+    word-of-requires
+    sub-is-good-behind
+    part-is-good-behind-start
+    part-is-good-behind-end
+    is-good-behind-requires
+    returns-3)

@@ -12,7 +12,8 @@ use borrow.Author.Needs.{needs}
 use borrow.Author.Tests.{not-true, not-false}
 use Rattle.rules.specs.Messages.{arePairs}
 use Rattle.frame_laws.proofs.Bytes.{answer}
-use Rattle.kpa.proofs.Responses.{pair-good, pairs-length, next-pair, last-pair}
+use Rattle.frame_laws.proofs.Pairs.{pairs-length}
+use Rattle.kpa.proofs.Responses.{pair-good, next-pair, last-pair}
 use Rattle.kpa.proofs.behind.are_pairs.Statement.{statement}
 use Rattle.kpa.proofs.behind.are_pairs.Tie as tie
 

@@ -1,6 +1,4 @@
 -- `kpa::behind::is_pair` meets its contract: two bytes are a number where both are digits. Assumes nothing.
-use mathlib.Core.Path.{_≡_, sym, _∙_, ap}
-use mathlib.Core.Bool.{Bool, _&&_}
 use native.Mathlib.Omega.{arith}
 use denote.Ref.{now}
 use borrow.Author.Needs.{needs}

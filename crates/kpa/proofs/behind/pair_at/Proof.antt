@@ -1,6 +1,6 @@
 -- `kpa::behind::pair_at` meets its contract: two digits are below a hundred. Assumes nothing.
-use Prim.Native.Nat.{_*_, _<_}
-use mathlib.Core.Path.{_≡_, ap, _∙_}
+use Prim.Native.Nat.{_*_}
+use mathlib.Core.Path.{_≡_, _∙_}
 use native.Mathlib.Omega.{arith}
 use denote.Ref.{now}
 use borrow.Author.Needs.{needs}

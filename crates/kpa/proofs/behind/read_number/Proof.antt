@@ -46,7 +46,7 @@ returns c =
 returns-2 : tie.Need-returns-2
 returns-2 c =
     let a = c .before .before .before .args in
-    refused (a .letters) (now (a .t)) (c .before .if1 .left) _ (wrong-length (a .width) (a .limit) (now (a .t)) (c .if2 .taken))
+    refused (a .letters) (now (a .t)) (c .before .if1 .left) _ (wrong-length (a .width) (a .limit) (now (a .t)) (omega arith))
 
 digits-requires : tie.Need-digits-requires
 digits-requires c κs = search needs

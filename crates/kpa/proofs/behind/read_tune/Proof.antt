@@ -9,7 +9,7 @@ use Rattle.kpa.proofs.behind.read_tune.Statement.{statement}
 use Rattle.kpa.proofs.behind.read_tune.Tie as tie
 
 returns : tie.Need-returns
-returns c = rw (lengths-differ (now (c .before .args .t)) [] (c .if1 .taken))
+returns c = rw (lengths-differ (now (c .before .args .t)) [] (omega arith))
 
 returns-2 : tie.Need-returns-2
 returns-2 c =

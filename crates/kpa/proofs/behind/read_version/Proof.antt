@@ -42,8 +42,10 @@ returns-3 c =
     let a = read .before .before .before .before .args in
     let e = sym (read .are-pairs .ensures) ∙ not-false _ (c .before .before .if2 .left) in
     let digits = pairs-digits versionMarks (now (a .t)) e in
+    let before = digits 0 (lit≤ tt) in
+    let behind = digits 1 (lit≤ tt) in
     accepted (a .letters) (now (a .t)) (read .before .before .if1 .left) e
-    (rw (c .before .pair-at .ensures (digits 0 (lit≤ tt)), c .pair-at2 .ensures (digits 1 (lit≤ tt))))
+    (rw (c .before .pair-at .ensures (search needs), c .pair-at2 .ensures (search needs)))
 
 pub read-version-spec : {M : Type 1} → statement M
 read-version-spec =

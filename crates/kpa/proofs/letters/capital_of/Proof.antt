@@ -6,7 +6,7 @@ use Rattle.kpa.proofs.letters.capital_of.Statement.{statement}
 use Rattle.kpa.proofs.letters.capital_of.Tie as tie
 
 sub-result : tie.Need-sub-result
-sub-result c = omega (arith, between-bounds 97 122 (c .before .args .b) (c .if1 .taken))
+sub-result c = omega (arith, between-bounds _ _ (c .before .args .b) (c .if1 .taken))
 
 returns : tie.Need-returns
 unfolding capital

@@ -1,5 +1,5 @@
 -- `kpa::letters::word_length` meets its contract: a number below a power of 256 has zeros in front. Assumes nothing.
-use Prim.Native.Nat.{ℕ, _/_, _%_, _^_}
+use Prim.Native.Nat.{_/_, _%_, _^_}
 use native.Mathlib.Omega.{arith}
 use borrow.Author.Tests.{eq-eqb, ne-eqb}
 use Rattle.rules.specs.Messages.{withoutZeros, wordLetters}

@@ -2,7 +2,7 @@
 -- on, and n is below 256 ^ i. The measure is what is left of the letters.
 -- Assumes nothing.
 use Prim.Native.Nat.{ℕ, _+_, _-_, _*_, _^_, _≤_, _<_}
-use mathlib.Core.Path.{_≡_, refl, sym, ap, _∙_}
+use mathlib.Core.Path.{_≡_, refl, sym, _∙_}
 use mathlib.Core.List.{List, map}
 use native.Mathlib.Nat.{lt-of-lt-of-le, pow-suc, pow-le-pow-right}
 use native.Mathlib.Numerals.{add-one}

@@ -2,12 +2,10 @@
 -- tested as a range, and letters of no arm are none of the listed ones.
 -- Assumes nothing.
 use Prim.Native.Nat.{ℕ, _≤_, _<_}
-use mathlib.Core.Path.{_≡_, refl}
-use mathlib.Core.List.{[], _∷_}
+use mathlib.Core.Path.{_≡_}
 use mathlib.Core.Logic.{inl, inr, ⊎-elim}
 use native.Mathlib.Nat.{eq-or-lt-of-le}
 use native.Mathlib.Omega.{arith}
-use types.Run.{OneOf}
 use borrow.Author.Tests.{ne-eqb}
 use Rattle.rules.specs.Bytes.{ascii, oneOf}
 use Rattle.rules.specs.Messages.{wordFrom, word, behind}
