@@ -18,6 +18,11 @@ use Rattle.lines.specs.Lines.{typed, Types}
 use Rattle.lines.proofs.Typed.{Left, _then_}
 use Rattle.replays.specs.Texts.{fieldTexts, formsOf, shownTexts}
 
+-- no texts leave the line and the place as they are
+pub nothing : {line : List ℕ} {at : ℕ} → Types [] line at line at
+unfolding typed
+nothing = record { leaves = refl }
+
 -- what is left when the first texts are typed
 rest : (texts : List (List ℕ)) (line : List ℕ) (at : ℕ) → Types texts line at (typed texts (line, at) .0) (typed texts (line, at) .1)
 rest texts line at = record { leaves = refl }
