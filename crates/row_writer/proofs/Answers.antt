@@ -1,4 +1,5 @@
--- A writer's answer as numbers: from what the writer promises, and for a code that is no byte. Assumes nothing.
+-- What is written for a frame, and for a message, which is refused as a record is; and a writer's answer as numbers: from what
+-- the writer promises, and for a code that is no byte. Assumes nothing.
 use Prim.Native.Nat.{ℕ, _<_}
 use mathlib.Core.Path.{_≡_, refl, ap, _∙_}
 use mathlib.Core.Bool.{Bool, true, false, _&&_, _||_}
@@ -10,12 +11,12 @@ use lib.Dec.{eqb, leb, ltb}
 use lib.IntN.{ℤ}
 use Rattle.rules.specs.Bytes.{every}
 use Rattle.rules.specs.Codes.{codes, isCode, isAckCode}
-use Rattle.rules.specs.Answers.{Writes, saidToWrite, noCode, noRecord, kindOf, allowed, notAllowed, bytesOf}
-use Rattle.rules.specs.declared.Frame.{Frame}
-use Rattle.rules.specs.declared.Frame.the-variants.{Ack, Command, Message as MessageOf}
 use Rattle.rules.specs.Messages.{messageInRange, messageBytes}
+use Rattle.rules.specs.Answers.{Writes, saidToWrite, noCode, noRecord, kindOf, allowed, notAllowed, bytesOf}
 use Rattle.rules.specs.declared.Message.{Message}
 use Rattle.rules.specs.declared.Message.the-variants.{Question, Number, Version, Clock, Tune, OtherLetters}
+use Rattle.rules.specs.declared.Frame.{Frame}
+use Rattle.rules.specs.declared.Frame.the-variants.{Ack, Command, Message as MessageOf}
 use Rattle.rules.specs.declared.Written.{Written}
 use Rattle.frame_laws.proofs.Bytes.{both, either, answer, one-of-these}
 use Rattle.rows.specs.Rows.{refusalOf}

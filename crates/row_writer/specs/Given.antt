@@ -8,12 +8,12 @@ use lib.Dec.{eqb, leb}
 use lib.IntN.{ℤ, pos, negsuc, natAbs}
 use lib.ListN.{length, take, drop, getD}
 use Rattle.rules.specs.Bytes.{every}
+use Rattle.rules.specs.Messages.{behind}
 use Rattle.rules.specs.Answers.{saidToWrite, written, outputAfter, noRecord, kindOf, allowed, notAllowed, bytesOf, statusValues}
 use Rattle.rules.specs.declared.Status as StatusType
 use Rattle.rules.specs.declared.Sentence02.{Sentence02}
 use Rattle.rules.specs.declared.Sentence03.{Sentence03}
 use Rattle.rules.specs.declared.Sentence05.{Sentence05}
-use Rattle.rules.specs.Messages.{behind}
 use Rattle.rules.specs.declared.Clock as ClockType
 use Rattle.rules.specs.declared.Behind.{Behind}
 use Rattle.rules.specs.declared.Behind.the-variants.{ANumber, AVersion, AClock, Alone, Anything}

@@ -1,7 +1,7 @@
 -- `kpa_writer::write_letters` meets its contract: the caret, the letters, which are the last of their number's four bytes,
 -- the text and the semicolon are four rows, laid one behind the other where they fit.
 -- Assumes nothing.
-use Prim.Native.Nat.{ℕ, _+_}
+use Prim.Native.Nat.{ℕ, _+_, _≤_}
 use mathlib.Core.Path.{_≡_, refl, sym, _∙_}
 use mathlib.Core.List.{List, _++_, append-assoc}
 use native.Mathlib.Omega.{arith}
@@ -18,6 +18,10 @@ use Rattle.kpa_writer.proofs.write_letters.Tie as tie
 frame-length : (letters t : List ℕ) → length (messageFrame (letters ++ t)) ≡ 1 + length letters + length t + 1
 frame-length letters t = simp length-append (omega arith)
 
+-- a number holds at most four letters
+few : (c : tie.After-word-bytes) → c .before .word-length .result ≤ 4
+few c = omega (arith, few-letters (c .before .before .before .before .args .letters), c .before .word-length .ensures)
+
 word-length-requires : tie.Need-word-length-requires
 word-length-requires c κs = search needs
 
@@ -25,10 +29,10 @@ word-bytes-requires : tie.Need-word-bytes-requires
 word-bytes-requires c κs = search needs
 
 add-end : tie.Need-add-end
-add-end c = omega (arith, few-letters (c .before .before .before .before .args .letters), c .before .word-length .ensures)
+add-end c = omega (arith, few c)
 
 add-end-2 : tie.Need-add-end-2
-add-end-2 c = omega (arith, few-letters (c .before .before .before .before .args .letters), c .before .word-length .ensures)
+add-end-2 c = omega (arith, few c)
 
 returns : tie.Need-returns
 returns c =
@@ -39,9 +43,7 @@ put-byte-requires : tie.Need-put-byte-requires
 put-byte-requires c κs = search needs
 
 sub-put-bytes : tie.Need-sub-put-bytes
-sub-put-bytes c =
-    let n = c .before .before .before .before .before .before .before in
-    omega (arith, few-letters (n .before .before .before .args .letters), n .word-length .ensures)
+sub-put-bytes c = few (c .before .before .before .before .before .before)
 
 sub-put-bytes-2 : tie.Need-sub-put-bytes-2
 sub-put-bytes-2 c = search needs
