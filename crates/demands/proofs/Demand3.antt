@@ -1,5 +1,5 @@
 -- Demand 3 of each family, from its own facts: the theorems about sessions, about the rule and about the lister hold of
--- families 1, 2 and 3. They speak of `fed`, `shut`, `fresh` and `Lists`, which the functions that run give.
+-- families 1 to 4. They speak of `fed`, `shut`, `fresh` and `Lists`, which the functions that run give.
 -- Assumes nothing.
 use Prim.Native.Nat.{ℕ}
 use mathlib.Core.Path.{_≡_}

@@ -1,15 +1,19 @@
 -- The cases of the bench sheet that are proved, 1 to 10, and 11 besides, gathered under one statement over the definitions;
--- and with cases 4 and 5 those of the comma before the line end.
+-- with cases 4 and 5 those of the comma before the line end; and some messages.
 use Prim.Native.Nat.{ℕ}
+use Prim.Native.Char.{code}
 use mathlib.Core.Path.{_≡_}
 use mathlib.Core.List.{List, [], _∷_, _++_, map}
 use lib.ListN.{take, drop, replicate}
 use Rattle.rules.specs.Bytes.{ascii, total}
 use Rattle.rules.specs.Codes.{codes, ack}
+use Rattle.rules.specs.Messages.{word, asLetters}
 use Rattle.rules.specs.Answers.{readOne, notGood}
 use Rattle.rules.specs.declared.Status as StatusType
 use Rattle.rules.specs.declared.Sentence05.{Sentence05}
-use Rattle.rules.specs.declared.Frame.the-variants.{Ack, Status, Command, Apa05}
+use Rattle.rules.specs.declared.Message as MessageType
+use Rattle.rules.specs.declared.Message.the-variants.{Question, Number, Clock, Tune, OtherLetters}
+use Rattle.rules.specs.declared.Frame.the-variants.{Ack, Status, Command, Apa05, Message}
 use Rattle.rules.specs.declared.Reading.the-variants.{Good, Refused}
 use Rattle.stream_rules.specs.Rule.{Found}
 use Rattle.stream_rules.specs.Streams.{fed, shut, fresh}
@@ -154,6 +158,21 @@ foundReport start length comma = record { start = start; skipped = 0; length = l
 abbrev pub emptied : ℕ → Fed
 emptied family = fed (shut (fresh family .reader) .reader) []
 
+-- Messages, by [1] of document 02: a caret before one that has small letters, a question, letters that are not listed, and the
+-- end of a tune; and a message found, by its start, the bytes skipped, its length and what it says
+abbrev pub someMessages : List ℕ
+someMessages = ascii "^^pwf0750;^PWF;^bt ok;^FT;"
+
+abbrev pub foundMessage : ℕ → ℕ → ℕ → MessageType.Message → Found
+foundMessage start skipped length m = record { start = start; skipped = skipped; length = length; frame = Message m }
+
+-- a caret and so many digits, offered to a fresh reader; and one digit more
+abbrev pub digitsBehind : ℕ → Fed
+digitsBehind n = fed (fresh 4 .reader) (code "^" ∷ replicate n (code "0"))
+
+abbrev pub oneDigitMore : Fed
+oneDigitMore = fed (digitsBehind 38 .reader) (code "0" ∷ [])
+
 pub record BenchSheet : Type 0 where
   -- 1. One frame at 1.
   pub case1 : frames 1 bytes1 ≡ foundAck 1 1 0x0D ∷ []
@@ -208,5 +227,23 @@ pub record BenchSheet : Type 0 where
   pub case10 : readOne 1 (0xAA ∷ 0xAA ∷ 0xAA ∷ 0x01 ∷ 0x90 ∷ 0x90 ∷ []) ≡ Refused notGood
   pub case10-command : readOne 3 (0x55 ∷ 0x55 ∷ 0x55 ∷ 0x01 ∷ 0x90 ∷ 0x90 ∷ []) ≡ Good (Command 0x90)
   -- 11. An empty stream, closed: done at once, and nothing listed.
-  pub case11 : (emptied 1 .answer ≡ Done 0) × (emptied 2 .answer ≡ Done 0) × (emptied 3 .answer ≡ Done 0)
+  pub case11 : (emptied 1 .answer ≡ Done 0) × (emptied 2 .answer ≡ Done 0) × (emptied 3 .answer ≡ Done 0) × (emptied 4 .answer ≡ Done 0)
   pub case11-listed : (family : ℕ) → frames family [] ≡ []
+  -- [1] of document 02: the messages are found by their starts, each with what it says.
+  pub messages-found : frames 4 someMessages
+      ≡ foundMessage 1 1 9 (Number (word (ascii "PWF")) 750)
+      ∷ foundMessage 10 0 5 (Question (word (ascii "PWF")))
+      ∷ foundMessage 15 0 7 (OtherLetters (asLetters (ascii "BT")))
+      ∷ foundMessage 22 0 4 Tune
+      ∷ []
+  -- Listed letters with anything else behind them are not good; RVM is not RV.
+  pub messages-bad : map (readOne 4) (ascii "^HS01;" ∷ ascii "^FT1;" ∷ ascii "^SN0022;" ∷ ascii "^RV1.23;" ∷ ascii "^FS6;" ∷ ascii "^;" ∷ [])
+      ≡ replicate 6 (Refused notGood)
+  pub message-other : readOne 4 (ascii "^RVM01.23;") ≡ Good (Message (OtherLetters (asLetters (ascii "RVM"))))
+  -- 2000 was a leap year, and 2001 was none.
+  pub leap-year : readOne 4 (ascii "^CC00-02-29T23:59:59;")
+      ≡ Good (Message (Clock (record { year = 0; month = 2; day = 29; hour = 23; minute = 59; second = 59 })))
+  pub common-year : readOne 4 (ascii "^CC01-02-29T23:59:59;") ≡ Refused notGood
+  -- A first byte that is no letter waits like any other: 39 bytes are held, and the 39th behind the caret decides.
+  pub no-letter-waits : (digitsBehind 38 .answer ≡ More 39) × (digitsBehind 38 .reader .count ≡ 39)
+  pub one-too-many : (oneDigitMore .answer ≡ More 1) × (oneDigitMore .reader .count ≡ 0)

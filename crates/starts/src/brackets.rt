@@ -6,7 +6,7 @@ use stream_rules::Brackets;
 use texts::text;
 use texts::text_byte;
 ghost use mathlib.Core.Path.{_≡_};
-ghost use Prim.Native.Nat.{_+_, min};
+ghost use Prim.Native.Nat.{_+_, _-_, _^_, min};
 ghost use lib.ListN.{length};
 ghost use Rattle.rules.specs.Bytes.{every};
 ghost use Rattle.stream_rules.specs.Heads.{bracketsOf, isInner, innerRun};
@@ -73,15 +73,21 @@ fn run_by_blocks(k: Brackets, p: &[u8]) -> usize
     n + run_by_bytes(k, &p[n..])
 }
 
+// One more; the largest number has none, and no list is so long.
+fn one_more(n: usize) -> usize
+    ensures { λ r. ⌜ r ≡ min (n + 1) (2 ^ 64 - 1) ⌝ }
+{
+    if n < 0xFFFF_FFFF_FFFF_FFFF {
+        return n + 1;
+    }
+    n
+}
+
 // How many inner bytes the bytes begin with, counted to one more than may stand between the brackets.
 pub fn inner_bytes(k: Brackets, p: &[u8]) -> usize
     ensures { λ r. ⌜ r ≡ min (length (innerRun k (now (p .entry)))) (k .most + 1) ⌝ }
 {
-    let most = k.most;
-    if p.len() <= most {
-        return run_by_blocks(k, p);
-    }
-    run_by_blocks(k, text(p, 0, most + 1))
+    run_by_blocks(k, text(p, 0, one_more(k.most)))
 }
 
 // Whether all of the bytes are inner bytes. The last 16 are seen as a block, which may overlap the one before it.
