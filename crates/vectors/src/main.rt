@@ -1,5 +1,5 @@
 // Prints what the library makes of each line of standard input, for comparison with a stored output.
-// A family digit, a space and a frame, either as it stands, from `$` on, or in hexadecimal digits:
+// A family digit, a space and a frame, either as it stands, from `$` or `^` on, or in hexadecimal digits:
 // what the reader of one frame makes of it. A letter, the family digit, a space and hexadecimal digits: with `l` the listing of
 // a capture, with `r` the replay of a script, with `w` a capture walked by the capture reader, with `p` a stream run through
 // the lent reader. A line that begins with `#` is a heading and is printed as it is.
@@ -64,7 +64,7 @@ fn print_answer(line: &[u8]) {
     let family = wrapping_sub_u8(line[0], b'0');
     let frame = &line[2..];
     if 0 < frame.len() {
-        if frame[0] == b'$' {
+        if texts::one_of(b"$^", frame[0]) {
             print_frame(family, frame);
             return;
         }
