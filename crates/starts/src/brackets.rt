@@ -31,18 +31,20 @@ pub fn brackets_of(family: u8) -> Brackets
     }
 }
 
-// Whether a block of 16 bytes is all inner bytes.
+// Whether a block of 16 bytes is all inner bytes: as many of them are.
 fn all_inner(k: Brackets, block: &[u8]) -> bool
     requires { ⌜ length (now block) ≡ 16 ⌝ }
     ensures { λ r. ⌜ r ≡ every (isInner k) (now (block .entry)) ⌝ }
 {
-    let mut good = true;
+    let mut n: u8 = 0;
     let mut i = 0;
     while i < 16 {
-        good = good & text_byte(k.opening, k.closing, block[i]);
+        if text_byte(k.opening, k.closing, block[i]) {
+            n += 1;
+        }
         i += 1;
     }
-    good
+    n == 16
 }
 
 // How many inner bytes the bytes begin with, byte by byte.
