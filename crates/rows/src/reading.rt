@@ -5,23 +5,17 @@ use crate::laying::STATUS_ROW;
 use crate::laying::lay_heading;
 use crate::laying::lay_reading;
 use crate::laying::lay_values;
-use alpha::read_sentence;
-use kpa::read_message;
+use frames::read_frame;
 use rules::COMMANDS;
-use rules::MESSAGES;
-use rules::NO_FAMILY;
 use rules::NOT_GOOD;
 use rules::REPLIES;
-use rules::SENTENCES;
 use spe::is_ack;
 use spe::is_command;
 use spe::read_numbers;
 ghost use Rattle.rules.specs.Answers.{replies, commands};
 ghost use Rattle.rows.specs.ReadRows.{ReadIn};
 
-// The refusals, as a C program has them.
-const IS_NO_FAMILY: u32 = NO_FAMILY as u32;
-
+// The refusal, as a C program has it.
 const IS_NOT_GOOD: u32 = NOT_GOOD as u32;
 
 // An acknowledgement or a report, or refusal 8.
@@ -88,12 +82,16 @@ pub fn read_row(
 ) -> u32
     ensures { λ r. ⌜ ReadIn numbers r family (now (bytes .entry)) taken start skipped ⌝ }
 {
-    let length = bytes.len();
     match family {
         REPLIES => reply_row(bytes, taken, start, skipped, numbers),
-        SENTENCES => lay_reading(read_sentence(bytes), taken, start, skipped, length, numbers),
         COMMANDS => command_row(bytes, taken, start, skipped, numbers),
-        MESSAGES => lay_reading(read_message(bytes), taken, start, skipped, length, numbers),
-        _ => IS_NO_FAMILY,
+        _ => lay_reading(
+            read_frame(family, bytes),
+            taken,
+            start,
+            skipped,
+            bytes.len(),
+            numbers,
+        ),
     }
 }
