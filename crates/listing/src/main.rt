@@ -1,4 +1,4 @@
-// Lists the frames of a capture: standard input is the family's digit, 1, 2 or 3, and the capture.
+// Lists the frames of a capture: standard input is the family's digit, 1 to 4, and the capture.
 // Prints a line for each frame and one for the whole, or the refusal alone.
 use listings::print_listing;
 use rules::NO_FAMILY;

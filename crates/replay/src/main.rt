@@ -1,4 +1,4 @@
-// Replays the calls of a script on a stream reader: standard input is the family's digit, 1, 2 or 3,
+// Replays the calls of a script on a stream reader: standard input is the family's digit, 1 to 4,
 // and the script. Prints a line for each call, or the refusal alone.
 use replays::print_replay;
 use rules::NO_FAMILY;
