@@ -1,6 +1,6 @@
 /* Calls every function of the header with arguments whose results are known: the cases of the bench
  * sheet, both forms of a report, one that an amplifier sent, the sentences that the Alpha's paper prints,
- * each number for no, and what has to be left alone.
+ * messages of the KPA1500, each number for no, and what has to be left alone.
  * A line for each check that fails, a last line 'N checks, M wrong', and status 0 only if none is. */
 #include "calls.h"
 
@@ -88,8 +88,8 @@ static void layout(void)
 
 /* ---- amp_read ------------------------------------------------------------------------------- */
 
-static void does_not_read(const char *what, uint32_t family, const uint8_t *bytes, size_t n,
-                          size_t room, uint32_t number)
+void does_not_read(const char *what, uint32_t family, const uint8_t *bytes, size_t n,
+                   size_t room, uint32_t number)
 {
     clear_row();
     check(amp_read(family, bytes, n, row, room) == number, what);
@@ -97,8 +97,8 @@ static void does_not_read(const char *what, uint32_t family, const uint8_t *byte
 }
 
 /* The row has just the room that it needs; with a place less it is refused. */
-static void reads(const char *what, uint32_t family, const uint8_t *bytes, size_t n,
-                  int64_t kind, int64_t code, const int64_t *values, size_t many)
+void reads(const char *what, uint32_t family, const uint8_t *bytes, size_t n,
+           int64_t kind, int64_t code, const int64_t *values, size_t many)
 {
     int64_t head[AMP_VALUES] = {0};
 
@@ -126,7 +126,7 @@ static void reading(void)
     does_not_read("case 9 as a whole", 2, SLICE(CASE_9), AMP_ROW, AMP_NOT_GOOD);
     does_not_read("no bytes", 1, NOTHING, AMP_ROW, AMP_NOT_GOOD);
     does_not_read("family 0", 0, SLICE(CASE_5), AMP_ROW, AMP_NO_FAMILY);
-    does_not_read("family 4", 4, SLICE(CASE_5), AMP_ROW, AMP_NO_FAMILY);
+    does_not_read("family 5", 5, SLICE(CASE_5), AMP_ROW, AMP_NO_FAMILY);
     does_not_read("family 257", 257, SLICE(CASE_5), AMP_ROW, AMP_NO_FAMILY);
     does_not_read("no family before no row", 9, SLICE(CASE_5), 0, AMP_NO_FAMILY);
     does_not_read("not good before no row", 1, SLICE(CASE_6), 0, AMP_NOT_GOOD);
@@ -210,8 +210,8 @@ static void worked_out(void)
 
 /* ---- amp_list ------------------------------------------------------------------------------- */
 
-static void lists(const char *what, uint32_t family, const uint8_t *bytes, size_t n,
-                  size_t many, uint32_t first, uint32_t second)
+void lists(const char *what, uint32_t family, const uint8_t *bytes, size_t n,
+           size_t many, uint32_t first, uint32_t second)
 {
     size_t count = 77;
 
@@ -222,8 +222,8 @@ static void lists(const char *what, uint32_t family, const uint8_t *bytes, size_
     check(starts[2] == UINT32_MAX, what);
 }
 
-static void does_not_list(const char *what, uint32_t family, const uint8_t *bytes, size_t n,
-                          size_t room, uint32_t number)
+void does_not_list(const char *what, uint32_t family, const uint8_t *bytes, size_t n,
+                   size_t room, uint32_t number)
 {
     size_t count = 77;
 
@@ -251,7 +251,7 @@ static void listing(void)
     lists("case 11", 2, NOTHING, 0, 0, 0);
     lists("65,536 zeros", 3, large, 65536, 0, 0, 0);
     does_not_list("no family", 0, SLICE(CASE_2), 3, AMP_NO_FAMILY);
-    does_not_list("no family before too long", 4, large, 65537, 3, AMP_NO_FAMILY);
+    does_not_list("no family before too long", 5, large, 65537, 3, AMP_NO_FAMILY);
     does_not_list("too long before no room", 1, large, 65537, 0, AMP_TOO_LONG);
     does_not_list("one place for two frames", 1, SLICE(CASE_2), 1, AMP_NO_ROOM);
     does_not_list("no place for two frames", 1, SLICE(CASE_2), 0, AMP_NO_ROOM);
@@ -259,8 +259,8 @@ static void listing(void)
 
 /* ---- amp_next ------------------------------------------------------------------------------- */
 
-static void next_is(const char *what, uint32_t family, const uint8_t *bytes, size_t n,
-                    size_t place, uint32_t reports, size_t size, size_t start)
+void next_is(const char *what, uint32_t family, const uint8_t *bytes, size_t n,
+             size_t place, uint32_t reports, size_t size, size_t start)
 {
     size_t found = 77;
 
@@ -268,8 +268,8 @@ static void next_is(const char *what, uint32_t family, const uint8_t *bytes, siz
     check(found == start, what);
 }
 
-static void no_next(const char *what, uint32_t family, const uint8_t *bytes, size_t n,
-                    size_t place, uint32_t reports)
+void no_next(const char *what, uint32_t family, const uint8_t *bytes, size_t n,
+             size_t place, uint32_t reports)
 {
     next_is(what, family, bytes, n, place, reports, 0, 77);
 }
@@ -299,8 +299,8 @@ static void next(void)
 
 /* ---- Writers -------------------------------------------------------------------------------- */
 
-static void writes(const char *what, uint32_t kind, uint32_t code, const int64_t *values,
-                   size_t many, const uint8_t *bytes, size_t n)
+void writes(const char *what, uint32_t kind, uint32_t code, const int64_t *values,
+            size_t many, const uint8_t *bytes, size_t n)
 {
     size_t length = 77, i;
     int rest = 1;
@@ -313,8 +313,8 @@ static void writes(const char *what, uint32_t kind, uint32_t code, const int64_t
     check(rest, what);
 }
 
-static void does_not_write(const char *what, uint32_t kind, uint32_t code, const int64_t *values,
-                           size_t many, size_t room, uint32_t number)
+void does_not_write(const char *what, uint32_t kind, uint32_t code, const int64_t *values,
+                    size_t many, size_t room, uint32_t number)
 {
     size_t length = 77, i;
     int same = 1;
@@ -421,6 +421,7 @@ int main(void)
     listing();
     next();
     stream_calls();
+    message_calls();
     writing();
     spoiled_values();
     spoiled_commas();

@@ -1,4 +1,5 @@
-/* What calls.c and calls_streams.c share: known bytes and their values, a lent row, and the checks. */
+/* What calls.c, calls_streams.c and calls_messages.c share: known bytes and their values, a lent row, and the
+ * checks. */
 #ifndef CALLS_H
 #define CALLS_H
 
@@ -31,6 +32,15 @@ void check(int right, const char *what);
 #define REWRITTEN "\xAA\xAA\xAA\x43,13K,S,R,A,1,07,2a,0r,M,0000, 0.00, 0.00, 0.0, 0.0, 77,  0,  0,N,N," \
                   "\x01\x0D,\x0D\x0A"
 
+/* A message of the KPA1500 with the longest row, and the letters of it: 38, of which two stand in the last
+ * value. */
+#define LETTERS_38 "ABCDEFGHIJKLMNOPQRSTUVWXYZABCDEFGHIJKL"
+#define OTHER_38 "^" LETTERS_38 ";"
+extern const int64_t values_38[AMP_OTHER_VALUES];
+/* The clock's example in the amplifier's reference. */
+#define CLOCK "^CC17-07-31T13:15:00;"
+extern const int64_t clock_values[AMP_CC_VALUES];
+
 /* A text with a byte pointer and its length, as the two arguments of one lent slice. */
 #define SLICE(text) (const uint8_t *)(text), sizeof(text) - 1
 #define NOTHING SLICE("")
@@ -53,7 +63,27 @@ void clear_row(void);
 int row_is(const int64_t *head, const int64_t *values, size_t many);
 int row_untouched(void);
 
-/* The checks of streams. */
+/* Each call with a row or an output that has just the room, and what is refused, with what is lent left alone:
+ * calls.c says it of each. */
+void reads(const char *what, uint32_t family, const uint8_t *bytes, size_t n,
+           int64_t kind, int64_t code, const int64_t *values, size_t many);
+void does_not_read(const char *what, uint32_t family, const uint8_t *bytes, size_t n,
+                   size_t room, uint32_t number);
+void lists(const char *what, uint32_t family, const uint8_t *bytes, size_t n,
+           size_t many, uint32_t first, uint32_t second);
+void does_not_list(const char *what, uint32_t family, const uint8_t *bytes, size_t n,
+                   size_t room, uint32_t number);
+void next_is(const char *what, uint32_t family, const uint8_t *bytes, size_t n,
+             size_t place, uint32_t reports, size_t size, size_t start);
+void no_next(const char *what, uint32_t family, const uint8_t *bytes, size_t n,
+             size_t place, uint32_t reports);
+void writes(const char *what, uint32_t kind, uint32_t code, const int64_t *values,
+            size_t many, const uint8_t *bytes, size_t n);
+void does_not_write(const char *what, uint32_t kind, uint32_t code, const int64_t *values,
+                    size_t many, size_t room, uint32_t number);
+
+/* The checks of streams, and those of the KPA1500. */
 void stream_calls(void);
+void message_calls(void);
 
 #endif

@@ -40,6 +40,23 @@ const VALUES_RECORDED: [i64; AMP_STATUS_VALUES] = [
     1,
 ];
 
+/// The clock's example in the reference of the KPA1500, and its longest message.
+const CLOCK: &[u8] = b"^CC17-07-31T13:15:00;";
+const VALUES_CLOCK: [i64; AMP_CC_VALUES] = [17, 7, 31, 13, 15, 0];
+const OTHER_38: &[u8] = b"^ABCDEFGHIJKLMNOPQRSTUVWXYZABCDEFGHIJKL;";
+const VALUES_38: [i64; AMP_OTHER_VALUES] = [
+    0x4142_4344,
+    0x4546_4748,
+    0x494A_4B4C,
+    0x4D4E_4F50,
+    0x5152_5354,
+    0x5556_5758,
+    0x595A_4142,
+    0x4344_4546,
+    0x4748_494A,
+    0x4B4C,
+];
+
 struct Checks {
     tried: usize,
     wrong: usize,
@@ -236,6 +253,158 @@ fn held_most(checks: &mut Checks) {
     checks.check(number == 0 && reader.count == 0, "75 held");
 }
 
+/// What is read of a message: the number for no, then kind, code, length and values; it has so many places.
+fn read_message(bytes: &[u8], room: usize, many: usize) -> (u32, Vec<i64>) {
+    let mut row = [-77i64; AMP_ROW];
+    let number = unsafe { amp_read(4, bytes.as_ptr(), bytes.len(), row.as_mut_ptr(), room) };
+    let mut told = vec![row[AMP_KIND], row[AMP_CODE], row[AMP_LENGTH]];
+    told.extend(&row[AMP_VALUES..][..many]);
+    (number, told)
+}
+
+fn read_messages(checks: &mut Checks) {
+    let question = vec![AMP_QUESTION as i64, AMP_PWF as i64, 5];
+    let tune = vec![AMP_RESPONSE as i64, AMP_FT as i64, 4];
+    let clock = [&[AMP_RESPONSE as i64, AMP_CC as i64, 21][..], &VALUES_CLOCK].concat();
+    let other = [&[AMP_OTHER as i64, 0, 40][..], &VALUES_38].concat();
+    checks.check(read_message(b"^pwf;", 6, 0) == (0, question), "a question");
+    checks.check(read_message(b"^ft;", 6, 0) == (0, tune), "a tune");
+    checks.check(read_message(CLOCK, 12, 6) == (0, clock), "a response");
+    checks.check(
+        read_message(OTHER_38, 16, 10) == (0, other),
+        "other letters",
+    );
+    let none = vec![-77; 3];
+    checks.check(
+        read_message(CLOCK, 11, 0) == (AMP_NO_ROOM, none.clone()),
+        "no room",
+    );
+    checks.check(
+        read_message(OTHER_38, 15, 0) == (AMP_NO_ROOM, none.clone()),
+        "no room",
+    );
+    checks.check(
+        read_message(b"^FS6;", 0, 0) == (AMP_NOT_GOOD, none.clone()),
+        "FS 6",
+    );
+    checks.check(
+        read_message(b"^1;", AMP_ROW, 0) == (AMP_NOT_GOOD, none),
+        "no letter",
+    );
+}
+
+/// Writes a message into so many places. Gives the number for no and what was written.
+fn write_message(kind: u32, code: u32, values: &[i64], room: usize) -> (u32, Vec<u8>) {
+    let mut out = [0xEEu8; 40];
+    let mut length = 0usize;
+    let number = unsafe {
+        let (given, many, out) = (values.as_ptr(), values.len(), out.as_mut_ptr());
+        amp_write(kind, code, given, many, out, room, &mut length)
+    };
+    (number, out[..length].to_vec())
+}
+
+fn write_messages(checks: &mut Checks) {
+    let refused = (AMP_NO_RECORD, vec![]);
+    let (asks, tells) = (AMP_QUESTION, AMP_RESPONSE);
+    let clock = |room| write_message(tells, AMP_CC, &VALUES_CLOCK, room);
+    checks.check(clock(21) == (0, CLOCK.to_vec()), "a clock");
+    checks.check(clock(20) == (AMP_NO_ROOM, vec![]), "no room");
+    checks.check(
+        write_message(asks, AMP_SN, &[], 4) == (0, b"^SN;".to_vec()),
+        "SN",
+    );
+    checks.check(
+        write_message(tells, AMP_FT, &[], 4) == (0, b"^FT;".to_vec()),
+        "FT",
+    );
+    let version = write_message(tells, AMP_RV, &[1, 64], 9);
+    checks.check(version == (0, b"^RV01.64;".to_vec()), "RV");
+    checks.check(write_message(asks, AMP_FT, &[], 40) == refused, "FT asked");
+    checks.check(
+        write_message(AMP_OTHER, 0, &VALUES_38, 40) == refused,
+        "other",
+    );
+    checks.check(
+        write_message(tells, AMP_RV, &[1], 0) == refused,
+        "one value",
+    );
+    checks.check(write_message(tells, 0x5257, &[1], 40) == refused, "RW");
+    checks.check(write_message(tells, AMP_FS, &[6], 40) == refused, "FS 6");
+    checks.check(write_message(tells, AMP_HS, &[2], 40) == refused, "HS 2");
+    checks.check(
+        write_message(tells, AMP_PWF, &[10000], 40) == refused,
+        "PWF",
+    );
+    checks.check(
+        write_message(tells, AMP_SN, &[100_000], 40) == refused,
+        "SN",
+    );
+    checks.check(
+        write_message(tells, AMP_RV, &[0, 100], 40) == refused,
+        "RV 0.100",
+    );
+    for bad in [[1, 2, 29], [17, 0, 1], [17, 13, 1], [100, 1, 1]] {
+        let values = [&bad[..], &[0, 0, 0]].concat();
+        checks.check(
+            write_message(tells, AMP_CC, &values, 40) == refused,
+            "a date",
+        );
+    }
+    for bad in [[24, 0, 0], [0, 60, 0], [0, 0, 60], [0, 0, -1]] {
+        let values = [&[17, 7, 31][..], &bad].concat();
+        checks.check(
+            write_message(tells, AMP_CC, &values, 40) == refused,
+            "a time",
+        );
+    }
+}
+
+/// The longest message as a stream, cut anywhere; and the most that a reader of family 4 may hold.
+fn cut_messages(checks: &mut Checks) {
+    let mut row = [-77i64; AMP_ROW];
+    let mut reader = FILLED;
+    for cut in 0..OTHER_38.len() {
+        checks.check(unsafe { amp_fresh(&mut reader, 4) } == 0, "fresh");
+        let number = feed(&mut reader, &OTHER_38[..cut], &mut row, AMP_ROW);
+        checks.check(
+            number == 0 && row[AMP_KIND] == AMP_MORE as i64 && reader.count as usize == cut,
+            "up to a cut",
+        );
+        let number = feed(&mut reader, &OTHER_38[cut..], &mut row, 16);
+        let taken = (OTHER_38.len() - cut) as i64;
+        checks.check(
+            number == 0 && row[..AMP_VALUES] == [AMP_OTHER as i64, 0, taken, 0, 0, 40],
+            "behind the cut",
+        );
+        checks.check(row[AMP_VALUES..][..AMP_OTHER_VALUES] == VALUES_38, "values");
+    }
+    reader.count = 40;
+    let number = feed(&mut reader, b";", &mut row, AMP_ROW);
+    checks.check(number == AMP_HOLDS_TOO_MUCH, "40 held");
+    let number = unsafe { amp_close(&mut reader) };
+    checks.check(number == AMP_HOLDS_TOO_MUCH, "40 held, close");
+    reader.count = 39;
+    let number = unsafe { amp_close(&mut reader) };
+    checks.check(number == 0 && reader.closed == 1, "39 held, close");
+}
+
+fn message_captures(checks: &mut Checks) {
+    let mut starts = [u32::MAX; 3];
+    let (mut count, mut start) = (0usize, 0usize);
+    let line = b";^FR;^FS6;^FS5;";
+    let (bytes, n) = (line.as_ptr(), line.len());
+    let number = unsafe { amp_list(4, bytes, n, starts.as_mut_ptr(), 3, &mut count) };
+    checks.check(
+        number == 0 && count == 2 && starts == [1, 10, u32::MAX],
+        "list messages",
+    );
+    let size = unsafe { amp_next(4, bytes, n, 2, 0, &mut start) };
+    checks.check(size == 5 && start == 10, "the next message");
+    let size = unsafe { amp_next(4, bytes, n, 0, 1, &mut start) };
+    checks.check(size == 0 && start == 10, "no report among messages");
+}
+
 fn captures(checks: &mut Checks) {
     let mut starts = [u32::MAX; 3];
     let mut count = 0usize;
@@ -264,6 +433,10 @@ fn main() {
     write_reports(&mut checks);
     cut_reports(&mut checks);
     held_most(&mut checks);
+    read_messages(&mut checks);
+    write_messages(&mut checks);
+    cut_messages(&mut checks);
+    message_captures(&mut checks);
     captures(&mut checks);
     println!("{} checks, {} wrong", checks.tried, checks.wrong);
     std::process::exit(if checks.wrong == 0 { 0 } else { 1 });

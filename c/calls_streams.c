@@ -31,7 +31,8 @@ static void fresh(void)
     memset(&reader, 0x5A, sizeof reader);
     before = reader;
     check(amp_fresh(&reader, 0) == AMP_NO_FAMILY, "fresh of family 0");
-    check(amp_fresh(&reader, 4) == AMP_NO_FAMILY, "fresh of family 4");
+    check(amp_fresh(&reader, 5) == AMP_NO_FAMILY, "fresh of family 5");
+    check(amp_fresh(&reader, 260) == AMP_NO_FAMILY, "fresh of family 260");
     check(amp_fresh(&reader, 257) == AMP_NO_FAMILY, "fresh of family 257");
     check(memcmp(&before, &reader, sizeof before) == 0, "a refused reader is as it was");
     check(amp_fresh(&reader, 2) == 0, "fresh of family 2");
@@ -175,6 +176,75 @@ static void holds_most(void)
     check(amp_close(&reader) == 0 && reader.count == 75, "75 bytes held, closed");
 }
 
+/* Messages of the KPA1500 as they come: each with its semicolon, and the rest offered again. */
+static void messages(void)
+{
+    static const int64_t kilohertz[] = {14050};
+    amp_reader reader;
+
+    check(amp_fresh(&reader, 4) == 0 && reader.family == 4, "fresh of family 4");
+    feeds("a front", &reader, SLICE(";^FR140"), HEAD(AMP_MORE, 0, 7, 0, 0, 0), NULL, 0);
+    check(reader.count == 6 && reader.at == 1 && reader.skipped == 1, "6 held");
+    feeds("its back", &reader, SLICE("50;^FR;"), HEAD(AMP_RESPONSE, AMP_FR, 3, 1, 1, 9), kilohertz, 1);
+    feeds("a question", &reader, SLICE("^FR;;^ft;"), HEAD(AMP_QUESTION, AMP_FR, 4, 10, 0, 4), NULL, 0);
+    feeds("a tune", &reader, SLICE(";^ft;"), HEAD(AMP_RESPONSE, AMP_FT, 5, 15, 1, 4), NULL, 0);
+    feeds("a clock", &reader, SLICE(CLOCK), HEAD(AMP_RESPONSE, AMP_CC, 21, 19, 0, 21), clock_values, 6);
+    feeds("an end", &reader, SLICE("^I"), HEAD(AMP_MORE, 0, 2, 0, 0, 0), NULL, 0);
+    check(amp_close(&reader) == 0 && reader.count == 2, "closed");
+    does_not_feed("closed", &reader, SLICE(";"), AMP_ROW, AMP_CLOSED);
+    feeds("done", &reader, NOTHING, HEAD(AMP_DONE, 0, 0, 0, 0, 0), NULL, 0);
+    check(reader.count == 0 && reader.at == 42 && reader.skipped == 2, "2 dropped");
+}
+
+/* What decides a start: a semicolon, a byte that no message has, or 39 bytes behind the caret. A first byte
+ * that is no letter does not, so it waits with the others. */
+static void decided(void)
+{
+    amp_reader reader;
+
+    check(amp_fresh(&reader, 4) == 0, "fresh");
+    feeds("no letter", &reader, SLICE("^1 ~"), HEAD(AMP_MORE, 0, 4, 0, 0, 0), NULL, 0);
+    check(reader.count == 4 && reader.skipped == 0, "no letter waits");
+    feeds("a semicolon", &reader, SLICE(";"), HEAD(AMP_MORE, 0, 1, 0, 0, 0), NULL, 0);
+    check(reader.count == 0 && reader.at == 5 && reader.skipped == 5, "a semicolon decides");
+    feeds("a line end", &reader, SLICE("^FR\x0A"), HEAD(AMP_MORE, 0, 4, 0, 0, 0), NULL, 0);
+    check(reader.count == 0 && reader.skipped == 9, "a forbidden byte decides");
+    feeds("a caret", &reader, SLICE("^FR^"), HEAD(AMP_MORE, 0, 4, 0, 0, 0), NULL, 0);
+    check(reader.count == 1 && reader.at == 12 && reader.skipped == 12, "a caret decides, and begins");
+    feeds("38 more", &reader, SLICE(LETTERS_38), HEAD(AMP_MORE, 0, 38, 0, 0, 0), NULL, 0);
+    check(reader.count == 39 && reader.at == 12, "38 behind the caret do not");
+    feeds("39", &reader, SLICE("^"), HEAD(AMP_MORE, 0, 1, 0, 0, 0), NULL, 0);
+    check(reader.count == 1 && reader.at == 51 && reader.skipped == 51, "39 do: a caret");
+    feeds("38 more", &reader, SLICE("1" LETTERS_38), HEAD(AMP_MORE, 0, 39, 0, 0, 0), NULL, 0);
+    check(reader.count == 0 && reader.at == 91 && reader.skipped == 91, "39 do: a letter");
+    feeds("the longest", &reader, SLICE(OTHER_38 ";"), HEAD(AMP_OTHER, 0, 40, 91, 91, 40),
+          values_38, AMP_OTHER_VALUES);
+}
+
+/* The most bytes that a reader of family 4 may hold: any, and a message that wants its semicolon. */
+static void holds_most_messages(void)
+{
+    amp_reader reader;
+
+    check(amp_fresh(&reader, 4) == 0, "fresh");
+    memset(reader.held, 7, sizeof reader.held);
+    reader.count = 39;
+    feeds("39 bytes held", &reader, NOTHING, HEAD(AMP_MORE, 0, 0, 0, 0, 0), NULL, 0);
+    check(reader.count == 0 && reader.at == 39 && reader.skipped == 39, "39 bytes skipped");
+    memcpy(reader.held, OTHER_38, 39);
+    reader.count = 39;
+    feeds("its semicolon wanted", &reader, NOTHING, HEAD(AMP_MORE, 0, 0, 0, 0, 0), NULL, 0);
+    check(reader.count == 39, "39 held");
+    feeds("its semicolon", &reader, SLICE(";;"), HEAD(AMP_OTHER, 0, 1, 39, 39, 40),
+          values_38, AMP_OTHER_VALUES);
+    memcpy(reader.held, "^FS5;^FT;", 9);
+    reader.count = 9;
+    feeds("two held", &reader, SLICE("x"), HEAD(AMP_RESPONSE, AMP_FS, 0, 79, 0, 5), (const int64_t[]){5}, 1);
+    feeds("the second", &reader, SLICE("x"), HEAD(AMP_RESPONSE, AMP_FT, 0, 84, 0, 4), NULL, 0);
+    reader.count = 39;
+    check(amp_close(&reader) == 0 && reader.count == 39, "39 bytes held, closed");
+}
+
 /* Whether a reader that claims to hold count bytes is refused by both calls, and left alone. */
 static void holds_too_much(uint8_t family, uint8_t count)
 {
@@ -198,6 +268,8 @@ static void states_refused(void)
     holds_too_much(2, 134);
     holds_too_much(3, 6);
     holds_too_much(3, 255);
+    holds_too_much(4, 40);
+    holds_too_much(4, 133);
     memset(&reader, 255, sizeof reader);
     before = reader;
     check(amp_close(&reader) == AMP_NO_FAMILY, "close, no family before too much held");
@@ -222,5 +294,8 @@ void stream_calls(void)
     cut_short();
     comma_behind();
     holds_most();
+    messages();
+    decided();
+    holds_most_messages();
     states_refused();
 }

@@ -81,7 +81,7 @@ static void judge_places(const amp_reader *was, const amp_reader *reader, const 
     uint32_t gone = reader->at - was->at, start = (uint32_t)row[AMP_START];
 
     EXPECT((int64_t)was->count + row[AMP_TAKEN] == (int64_t)gone + reader->count);
-    if (row[AMP_KIND] >= AMP_MORE) {
+    if (!is_frame(row)) {
         EXPECT(reader->skipped == (uint32_t)(was->skipped + gone));
         EXPECT(row[AMP_CODE] == 0 && row[AMP_START] == 0 && row[AMP_SKIPPED] == 0);
         EXPECT(row[AMP_LENGTH] == 0);
@@ -103,7 +103,7 @@ static void judge_feed(const amp_reader *was, const amp_reader *reader, const in
     EXPECT(reader->count <= limit_of(was->family));
     EXPECT(unused_are_zero(reader));
     EXPECT(row[AMP_TAKEN] >= 0 && row[AMP_TAKEN] <= (int64_t)n);
-    EXPECT(kind >= AMP_ACK && kind <= AMP_DONE);
+    EXPECT(kind >= AMP_ACK && kind <= AMP_OTHER);
     EXPECT(kind != AMP_MORE || (row[AMP_TAKEN] == (int64_t)n && was->closed == 0));
     EXPECT(kind != AMP_DONE || (was->closed != 0 && reader->count == 0));
     judge_places(was, reader, row);
@@ -215,24 +215,24 @@ static size_t capture_length(void)
 }
 
 /* More places than a capture can have frames. */
-static uint32_t places[LONGEST / 6 + 1];
+static uint32_t places[LONGEST / 3 + 1];
 
 static void judge_list(uint32_t family, const uint8_t *s, size_t n, const uint32_t *starts, size_t count)
 {
-    size_t i, first = 0, size = amp_next(family, s, n, 0, 0, &first);
+    size_t i, first = 0, size = amp_next(family, s, n, 0, 0, &first), least = least_of(family);
 
     EXPECT((count > 0) == (size > 0));
     EXPECT(count == 0 || starts[0] == first);
     for (i = 1; i < count; i++)
-        if (starts[i] < starts[i - 1] + 6)
-            EXPECT(starts[i] >= starts[i - 1] + 6);
-    EXPECT(count == 0 || starts[count - 1] + (size_t)6 <= n);
+        if (starts[i] < starts[i - 1] + least)
+            EXPECT(starts[i] >= starts[i - 1] + least);
+    EXPECT(count == 0 || starts[count - 1] + least <= n);
 }
 
 static void try_list(void)
 {
     uint32_t family = some_family(), number, *starts;
-    size_t n = capture_length(), room = once_in(2) ? some_below(4) : some_below(n / 6 + 20), all = 0, *count;
+    size_t n = capture_length(), room = once_in(2) ? some_below(4) : some_below(n / 3 + 20), all = 0, *count;
     uint8_t *capture;
 
     begin(LIST);
@@ -304,16 +304,16 @@ static int spoil_record(int64_t *row, size_t many)
     for (i = 0; i < values; i++)
         row[AMP_VALUES + some_below(many)] = some_value();
     if (kind)
-        row[AMP_KIND] = once_in(4) ? (int64_t)(uint32_t)chance() : (int64_t)some_below(8);
+        row[AMP_KIND] = once_in(4) ? (int64_t)(uint32_t)chance() : (int64_t)some_below(11);
     if (code)
-        row[AMP_CODE] = once_in(4) ? (int64_t)(uint32_t)chance() : (int64_t)some_below(260);
+        row[AMP_CODE] = (int64_t)some_code();
     return values > 0 || kind || code;
 }
 
 /* A kind, a code and values that can be written, out of a good frame; often spoiled then. */
 static int some_record(int64_t *row, size_t many)
 {
-    uint32_t family = 1 + (uint32_t)some_below(3);
+    uint32_t family = 1 + (uint32_t)some_below(4);
     size_t n;
     const uint8_t *frame = some_frame(family, &n);
 
@@ -341,7 +341,7 @@ static void judge_refusal(uint32_t number, const int64_t *row, size_t many, size
 static void judge_written(const int64_t *row, const uint8_t *out, size_t length)
 {
     uint32_t kind = (uint32_t)row[AMP_KIND], code = (uint32_t)row[AMP_CODE];
-    uint32_t family = kind == AMP_SENTENCE ? 2 : kind == AMP_COMMAND ? 3 : 1;
+    uint32_t family = kind == AMP_SENTENCE ? 2 : kind == AMP_COMMAND ? 3 : kind >= AMP_QUESTION ? 4 : 1;
     int64_t back[AMP_ROW];
 
     EXPECT(length == written_length(row));
@@ -357,7 +357,7 @@ static void judge_written(const int64_t *row, const uint8_t *out, size_t length)
 static void try_write(void)
 {
     size_t many = once_in(6) ? some_below(MOST_VALUES) : AMP_STATUS_VALUES;
-    size_t room = once_in(4) ? some_below(77) : 75 + some_below(20);
+    size_t room = once_in(4) ? some_below(77) : once_in(8) ? some_below(22) : 75 + some_below(20);
     int64_t row[AMP_VALUES + MOST_VALUES], *values;
     uint32_t number;
     size_t *length;

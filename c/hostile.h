@@ -36,7 +36,9 @@ void finish(void);
 
 /* The rules that a result is held to. */
 int is_family(uint32_t family);
+int is_frame(const int64_t *row);
 size_t limit_of(uint32_t family);
+size_t least_of(uint32_t family);
 int is_code(uint32_t kind, uint32_t code);
 size_t values_of(uint32_t kind, uint32_t code);
 size_t row_size(const int64_t *row);
@@ -53,6 +55,7 @@ void spoil(uint8_t *bytes, size_t n);
 void some_bytes(uint8_t *to, size_t n, uint32_t family);
 const uint8_t *some_frame(uint32_t family, size_t *n);
 int64_t some_value(void);
+uint32_t some_code(void);
 size_t some_row_room(void);
 
 /* Readers. */

@@ -150,12 +150,24 @@ void finish(void)
 
 int is_family(uint32_t family)
 {
-    return family >= 1 && family <= 3;
+    return family >= 1 && family <= 4;
+}
+
+/* Whether a row is that of a frame, and not of a call that found none. */
+int is_frame(const int64_t *row)
+{
+    return row[AMP_KIND] != AMP_MORE && row[AMP_KIND] != AMP_DONE;
 }
 
 size_t limit_of(uint32_t family)
 {
-    return family == 1 ? 75 : family == 2 ? 133 : 5;
+    return family == 1 ? 75 : family == 2 ? 133 : family == 3 ? 5 : 39;
+}
+
+/* The fewest bytes that a frame of the family has. */
+size_t least_of(uint32_t family)
+{
+    return family == 4 ? 3 : 6;
 }
 
 int is_code(uint32_t kind, uint32_t code)
@@ -164,10 +176,50 @@ int is_code(uint32_t kind, uint32_t code)
         || (code == 0x90 && kind == AMP_COMMAND);
 }
 
+/* The listed letters of the KPA1500: how many values their response has, and how many bytes. */
+struct message {
+    uint32_t code;
+    size_t values;
+    size_t length;
+};
+
+static const struct message messages[] = {
+    {AMP_SN, 1, 9}, {AMP_RV, 2, 9}, {AMP_PWF, 1, 9}, {AMP_PWI, 1, 9}, {AMP_PWR, 1, 9}, {AMP_PWD, 1, 9},
+    {AMP_FR, 1, 9}, {AMP_FQ, 1, 9}, {AMP_FS, 1, 5}, {AMP_HS, 1, 5}, {AMP_CC, 6, 21}, {AMP_FT, 0, 4}
+};
+#define MESSAGES (sizeof messages / sizeof *messages)
+
+/* NULL where the letters are not listed. */
+static const struct message *message_of(uint32_t code)
+{
+    size_t i;
+
+    for (i = 0; i < MESSAGES; i++)
+        if (messages[i].code == code)
+            return &messages[i];
+    return NULL;
+}
+
+/* How long a question or a response is; 0 where there is none with this code. FT is no question. */
+static size_t message_length(uint32_t kind, uint32_t code)
+{
+    const struct message *m = message_of(code);
+
+    if (m == NULL || (kind == AMP_QUESTION && code == AMP_FT))
+        return 0;
+    return kind == AMP_RESPONSE ? m->length : code > 0xFFFF ? 5 : 4;
+}
+
 size_t values_of(uint32_t kind, uint32_t code)
 {
+    const struct message *m = message_of(code);
+
     if (kind == AMP_STATUS)
         return AMP_STATUS_VALUES;
+    if (kind == AMP_OTHER)
+        return AMP_OTHER_VALUES;
+    if (kind == AMP_RESPONSE)
+        return m == NULL ? 0 : m->values;
     if (kind != AMP_SENTENCE)
         return 0;
     return code == 2 ? AMP_02_VALUES : code == 3 ? AMP_03_VALUES : code == 5 ? AMP_05_VALUES : 0;
@@ -195,9 +247,48 @@ size_t written_length(const int64_t *row)
         return 6;
     if (kind == AMP_STATUS)
         return report_length(row);
+    if (kind == AMP_QUESTION || kind == AMP_RESPONSE)
+        return message_length(kind, code);
     if (kind != AMP_SENTENCE)
         return 0;
     return code == 2 ? 63 : code == 3 ? 49 : code == 5 ? 32 : 0;
+}
+
+/* How many capitals a value of other letters has, up to four; 5 where it has anything else. */
+static size_t letters_in(int64_t value)
+{
+    size_t n = 0;
+
+    if (value < 0 || value > UINT32_MAX)
+        return 5;
+    for (; value > 0; value >>= 8, n++)
+        if ((value & 0xFF) < 'A' || (value & 0xFF) > 'Z')
+            return 5;
+    return n;
+}
+
+/* How many other letters a row has; 0 where its values are no such letters, or listed ones. */
+static size_t letters_of(const int64_t *row)
+{
+    size_t all = 0, last = 4, i, n;
+
+    for (i = 0; i < AMP_OTHER_VALUES; i++) {
+        n = letters_in(row[AMP_VALUES + i]);
+        if (n > 4 || (last < 4 && n > 0))
+            return 0;
+        all += n;
+        last = n;
+    }
+    return message_of((uint32_t)row[AMP_VALUES]) != NULL ? 0 : all;
+}
+
+static int is_message(const int64_t *row)
+{
+    if (row[AMP_KIND] == AMP_OTHER)
+        return row[AMP_CODE] == 0 && letters_of(row) > 0;
+    return (row[AMP_KIND] == AMP_QUESTION || row[AMP_KIND] == AMP_RESPONSE)
+        && row[AMP_CODE] >= 0 && row[AMP_CODE] <= UINT32_MAX
+        && message_length((uint32_t)row[AMP_KIND], (uint32_t)row[AMP_CODE]) > 0;
 }
 
 /* Whether kind and code of a row are those of a frame of the family. */
@@ -205,6 +296,8 @@ int frame_of(uint32_t family, const int64_t *row)
 {
     int64_t kind = row[AMP_KIND], code = row[AMP_CODE];
 
+    if (family == 4)
+        return is_message(row);
     if (family == 2)
         return kind == AMP_SENTENCE && code >= 0 && code <= 99;
     if (family == 1 && kind == AMP_STATUS)
@@ -219,20 +312,23 @@ int length_fits(const int64_t *row)
         return row[AMP_LENGTH] >= 11 && row[AMP_LENGTH] <= 134;
     if (row[AMP_KIND] == AMP_STATUS)
         return row[AMP_LENGTH] == (int64_t)report_length(row);
-    return row[AMP_LENGTH] == 6;
+    if (row[AMP_KIND] == AMP_OTHER)
+        return row[AMP_LENGTH] >= (int64_t)letters_of(row) + 2 && row[AMP_LENGTH] <= 40;
+    return row[AMP_LENGTH] == (int64_t)written_length(row);
 }
 
 /* ---- Arguments ------------------------------------------------------------------------------ */
 
 /* Captures to take bytes from, made once. Those of kind CLEAN are frames without a gap. */
 #define POOL 16384u
-static uint8_t pool[4][KINDS][POOL];
+#define FAMILIES 4u
+static uint8_t pool[FAMILIES + 1][KINDS][POOL];
 
 void make_pool(void)
 {
     unsigned family, kind;
 
-    for (family = 1; family <= 3; family++)
+    for (family = 1; family <= FAMILIES; family++)
         for (kind = 0; kind < KINDS; kind++)
             make_capture(family, kind, chance() % 1000000, pool[family][kind], POOL);
 }
@@ -241,18 +337,18 @@ void make_pool(void)
 uint32_t some_family(void)
 {
     if (once_in(50))
-        return once_in(2) ? (uint32_t)chance() : (uint32_t)chance() << 8 | (1 + (uint32_t)some_below(3));
-    return once_in(10) ? (uint32_t)some_below(5) : 1 + (uint32_t)some_below(3);
+        return once_in(2) ? (uint32_t)chance() : (uint32_t)chance() << 8 | (1 + (uint32_t)some_below(FAMILIES));
+    return once_in(10) ? (uint32_t)some_below(6) : 1 + (uint32_t)some_below(FAMILIES);
 }
 
 uint32_t near_family(uint32_t family)
 {
-    return is_family(family) && !once_in(20) ? family : 1 + (uint32_t)some_below(3);
+    return is_family(family) && !once_in(20) ? family : 1 + (uint32_t)some_below(FAMILIES);
 }
 
 size_t some_length(size_t most)
 {
-    static const size_t sharp[] = {0, 1, 3, 4, 5, 6, 7, 11, 32, 74, 75, 76, 77, 133, 134, 135};
+    static const size_t sharp[] = {0, 1, 2, 3, 4, 5, 6, 7, 9, 11, 21, 32, 38, 39, 40, 41, 74, 75, 76, 77, 133, 134, 135};
 
     return once_in(4) ? sharp[some_below(sizeof sharp / sizeof *sharp)] : some_below(most);
 }
@@ -262,7 +358,7 @@ void spoil(uint8_t *bytes, size_t n)
     size_t many = once_in(2) ? 1 + some_below(3) : 0;
 
     while (n > 0 && many-- > 0)
-        bytes[some_below(n)] = once_in(2) ? (uint8_t)chance() : (uint8_t)"\xAA\x55\x01\x43$*,0"[some_below(8)];
+        bytes[some_below(n)] = once_in(2) ? (uint8_t)chance() : (uint8_t)"\xAA\x55\x01\x43$*,0^;F"[some_below(11)];
 }
 
 /* Bytes of a line of this family, mostly: a part of a capture, whole or spoiled; else rubbish, or
@@ -275,7 +371,7 @@ void some_bytes(uint8_t *to, size_t n, uint32_t family)
         fill(to, n);
     } else if (once_in(8)) {
         for (i = 0; i < n; i++)
-            to[i] = (uint8_t)"\xAA\xAA\xAA\x55\x55\x55\x01\x43$$APA05,*\x0D"[some_below(18)];
+            to[i] = (uint8_t)"\xAA\xAA\xAA\x55\x55\x55\x01\x43$$APA05,*\x0D^^F;;"[some_below(23)];
     } else {
         memcpy(to, pool[near_family(family)][some_below(KINDS)] + some_below(POOL - n + 1), n);
         spoil(to, n);
@@ -295,7 +391,7 @@ const uint8_t *some_frame(uint32_t family, size_t *n)
 int64_t some_value(void)
 {
     static const int64_t ends[] = {
-        INT64_MIN, INT64_MAX, -1, 0, 1, 255, 256, 9999, 10000, 65536, INT64_C(0x7FFFFFFF),
+        INT64_MIN, INT64_MAX, -1, 0, 1, 5, 6, 99, 100, 255, 256, 9999, 10000, 65536, 99999, 100000, INT64_C(0x7FFFFFFF),
         INT64_C(0x80000000), INT64_C(0xFFFFFFFF), INT64_C(0x100000000), INT64_C(0x100000014)
     };
 
@@ -303,6 +399,16 @@ int64_t some_value(void)
     case 0: return (int64_t)chance();
     case 1: return (int64_t)some_below(300) - 20;
     default: return ends[some_below(sizeof ends / sizeof *ends)];
+    }
+}
+
+/* Also the listed letters, and now and then those with a byte more in front. */
+uint32_t some_code(void)
+{
+    switch (some_below(4)) {
+    case 0: return (uint32_t)chance();
+    case 1: return (uint32_t)some_below(260);
+    default: return messages[some_below(MESSAGES)].code | (once_in(8) ? (uint32_t)chance() << 24 : 0);
     }
 }
 
@@ -325,7 +431,7 @@ void keep(const amp_reader *reader)
 /* A state that a reader might have, but for what its bytes mean. */
 static void likely_reader(amp_reader *reader)
 {
-    uint32_t family = 1 + (uint32_t)some_below(3);
+    uint32_t family = 1 + (uint32_t)some_below(FAMILIES);
     size_t limit = limit_of(family), count = some_below(limit + 1 + (once_in(4) ? 3 : 0));
 
     fill(reader, sizeof *reader);

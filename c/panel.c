@@ -1,5 +1,6 @@
 /* The panel's loop, as an example: bytes from a serial line go to a stream reader as they arrive, and
- * each status report becomes a line of words when it is ready. Other frames are passed over.
+ * each status report, and each response of a KPA1500, becomes a line of words when it is ready. Other frames
+ * are passed over: what a host asks is not what an amplifier says.
  *
  *     panel FAMILY [PIECE] < BYTES
  *
@@ -81,11 +82,69 @@ static void say_report(const int64_t *row)
         text_of(warnings, v[AMP_STATUS_WARNING]), text_of(alarms, v[AMP_STATUS_ALARM])));
 }
 
+/* The responses that tell one number: its name, how many digits are said at least, and its unit. Of a serial
+ * number all five are, as it stands on the amplifier. */
+struct telling {
+    int64_t code;
+    const char *name;
+    int digits;
+    const char *unit;
+};
+
+static const struct telling tellings[] = {
+    {AMP_PWF, "forward power", 1, " W"}, {AMP_PWI, "input power", 1, " W"},
+    {AMP_PWR, "reflected power", 1, " W"}, {AMP_PWD, "dissipated power", 1, " W"},
+    {AMP_FR, "frequency", 1, " kHz"}, {AMP_FQ, "transmit counter", 1, " kHz"},
+    {AMP_FS, "fan speed", 1, ""}, {AMP_SN, "serial number", 5, ""}, {0, "?", 1, ""}
+};
+
+static int told_number(char *text, size_t room, int64_t code, int64_t value)
+{
+    const struct telling *t = tellings;
+
+    while (t->code != 0 && t->code != code)
+        t++;
+    return snprintf(text, room, "%s %0*lu%s", t->name, t->digits, (unsigned long)value, t->unit);
+}
+
+/* The clock's years are those of 2000 to 2099. */
+static int told_clock(char *text, size_t room, const int64_t *v)
+{
+    return snprintf(text, room, "clock 20%02u-%02u-%02u %02u:%02u:%02u",
+        (unsigned)v[AMP_CC_YEAR], (unsigned)v[AMP_CC_MONTH], (unsigned)v[AMP_CC_DAY],
+        (unsigned)v[AMP_CC_HOUR], (unsigned)v[AMP_CC_MINUTE], (unsigned)v[AMP_CC_SECOND]);
+}
+
+/* What a response tells, in words. From an amplifier FT is the end of a tune; a host's would start one. */
+static int told(char *text, size_t room, int64_t code, const int64_t *v)
+{
+    switch (code) {
+    case AMP_FT: return snprintf(text, room, "tune ended");
+    case AMP_HS: return snprintf(text, room, "high-SWR retune %s", v[0] == 1 ? "on" : "off");
+    case AMP_RV: return snprintf(text, room, "firmware version %02u.%02u", (unsigned)v[0], (unsigned)v[1]);
+    case AMP_CC: return told_clock(text, room, v);
+    default: return told_number(text, room, code, v[0]);
+    }
+}
+
+static void say_response(const int64_t *row)
+{
+    char line[80];
+    int n = snprintf(line, sizeof line, "%lu: ", (unsigned long)row[AMP_START]);
+
+    n += told(line + n, sizeof line - (size_t)n, row[AMP_CODE], row + AMP_VALUES);
+    line[n] = '\n';
+    say(line, n + 1);
+}
+
 static void heard(const int64_t *row)
 {
     if (row[AMP_KIND] == AMP_STATUS) {
         reports++;
         say_report(row);
+    } else if (row[AMP_KIND] == AMP_RESPONSE) {
+        reports++;
+        say_response(row);
     } else {
         others++;
     }

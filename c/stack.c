@@ -162,7 +162,7 @@ static void measure_offer(const uint8_t *from, size_t many)
         measure(FEED, call_feed);
         a.bytes += a.row[AMP_TAKEN];
         a.n -= (size_t)a.row[AMP_TAKEN];
-    } while (a.row[AMP_KIND] < AMP_MORE);
+    } while (a.row[AMP_KIND] != AMP_MORE && a.row[AMP_KIND] != AMP_DONE);
 }
 
 /* The capture as a stream in calls of a size, closed and drained. */
@@ -181,7 +181,7 @@ static void measure_all(unsigned turns)
 {
     unsigned kind, seed;
 
-    for (a.family = 1; a.family <= 3; a.family++)
+    for (a.family = 1; a.family <= 4; a.family++)
         for (kind = 0; kind < KINDS; kind++)
             for (seed = 0; seed < turns; seed++) {
                 make_capture(a.family, kind, seed, a.capture, LENGTH);

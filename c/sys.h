@@ -1,7 +1,7 @@
 /* The few functions of the C library that these programs call, declared here because the toolchain's
  * clang has no headers. The declarations are those of Linux on x86-64, so a compiler that does have
  * headers takes them too; a file that includes this one includes none of <stdio.h>, <string.h>,
- * <time.h> or <unistd.h>. */
+ * <time.h>, <unistd.h>, <fcntl.h> or <termios.h>. */
 #ifndef SYS_H
 #define SYS_H
 
@@ -35,6 +35,22 @@ int mprotect(void *at, size_t n, int allowed);
 
 long read(int file, void *to, size_t n);
 long write(int file, const void *from, size_t n);
+
+/* Pseudo-terminals, for pty.c alone. */
+enum { SYS_BOTH_WAYS = 2, SYS_NOT_CONTROLLING = 0x100, SYS_NOW = 0 };
+struct termios {
+    unsigned words[15];
+};
+int posix_openpt(int flags);
+int grantpt(int end);
+int unlockpt(int end);
+char *ptsname(int end);
+int open(const char *name, int flags, ...);
+int tcgetattr(int line, struct termios *to);
+void cfmakeraw(struct termios *line);
+int tcsetattr(int line, int when, const struct termios *from);
+int dup2(int file, int place);
+int execvp(const char *program, char *const *words);
 
 struct timespec {
     long tv_sec;
