@@ -68,7 +68,7 @@ pairs-plain : (marks t : List ℕ) → every isBodyByte marks ≡ true → arePa
 pairs-plain marks t m e = record { ends = digits-first t (pairs-front marks t e); clean = pairs-bytes isBodyByte digit-byte marks t m e }
 
 -- The numbers of a date and a time in range have two digits each, and a clock is what they say.
-days-31 : (year month : ℕ) → daysIn year month ≤ 31
+pub days-31 : (year month : ℕ) → daysIn year month ≤ 31
 unfolding daysIn
 days-31 year month =
     choice (λ (d : ℕ). d ≤ 31) (eqb month 2) _ _

@@ -4,7 +4,7 @@ use Prim.Native.Nat.{ℕ}
 use mathlib.Core.Path.{_≡_, refl}
 use mathlib.Core.List.{List}
 use borrow.Author.Tests.{ne-eqb}
-use Rattle.rules.specs.Answers.{readOne, readFamily1, readFamily2, readFamily3, readFamily4}
+use Rattle.rules.specs.Answers.{readOne, readFamily1, readFamily2, readFamily3}
 use Rattle.rules.specs.declared.Reading.the-variants.{Refused}
 
 module _ (bs : List ℕ) where
@@ -19,10 +19,6 @@ module _ (bs : List ℕ) where
   pub family3 : readFamily3 bs ≡ readOne 3 bs
   unfolding readOne
   family3 = refl
-
-  pub family4 : readFamily4 bs ≡ readOne 4 bs
-  unfolding readOne
-  family4 = refl
 
 pub no-family : (family : ℕ) (bs : List ℕ) → (family ≡ 1 → ⊥) → (family ≡ 2 → ⊥) → (family ≡ 3 → ⊥) → (family ≡ 4 → ⊥)
     → Refused 1 ≡ readOne family bs

@@ -1,6 +1,6 @@
 -- A frame that may be written is given by its own kind, code and values: what was read can be written again from its
 -- numbers. Each value fits its field by the rules of the record. Assumes nothing.
-use Prim.Native.Nat.{ℕ, zero, suc, _%_, _^_, _≤_}
+use Prim.Native.Nat.{ℕ, zero, suc, _^_, _≤_}
 use mathlib.Core.Path.{_≡_, refl, ap, ap₂}
 use mathlib.Core.Bool.{Bool, true, false, cond, and-eq-true-iff, false≢true}
 use mathlib.Core.List.{List, [], _∷_, map}
@@ -14,7 +14,7 @@ use Rattle.rules.specs.Bytes.{ascii, oneOf, every}
 use Rattle.rules.specs.Status.{by, fieldsInRange, statusInRange, warnings, alarms}
 use Rattle.rules.specs.Sentences.{fit, numbers02, inRange02, numbers03, inRange03, inRange05}
 use Rattle.rules.specs.Answers.{numbers05, messageKind, kindOf, values, allowed}
-use Rattle.rules.specs.Messages.{wordFrom, word, behind, isUpTo, daysIn, clockInRange, clockNumbers, messageInRange, messageNumbers}
+use Rattle.rules.specs.Messages.{wordFrom, word, behind, isUpTo, clockInRange, clockNumbers, messageInRange, messageNumbers}
 use Rattle.rules.specs.declared.Clock as ClockType
 use Rattle.rules.specs.declared.Behind.{Behind}
 use Rattle.rules.specs.declared.Behind.the-variants.{ANumber, AVersion, AClock, Alone, Anything}
@@ -29,6 +29,7 @@ use Rattle.rules.specs.declared.Frame.the-variants.{Ack, Status, Command, Apa02
 use Rattle.frame_laws.proofs.Bytes.{tests, both-pass, one-of-these}
 use Rattle.frame_laws.proofs.Report.{fits}
 use Rattle.frame_laws.proofs.Listed.{number-fits}
+use Rattle.frame_laws.proofs.MessageParts.{days-31}
 use Rattle.rows.specs.Rows.{kindRow, codeOf}
 use Rattle.row_writer.specs.declared.given.Given.the-variants.{AFrame}
 use Rattle.row_writer.specs.Given.{atMost, aTemperature, numberUpTo, temperatureOf, valueAt, byteLimit, wordLimit, isStatusRow, isRowOf, isRow03, statusFrom, from02, from03, from05, clockFrom, sentenceGiven, behindGiven, responseGiven, frameGiven}
@@ -270,20 +271,10 @@ back-version a b e =
     let k = kept byteLimit (a ∷ b ∷ []) pairs in
     rw (pass byteLimit (a ∷ b ∷ []) pairs) (ap₂ (λ x y. AFrame (MessageOf (Version x y))) (k 0) (k 1))
 
-either-most : (b : Bool) {x y k : ℕ} → x ≤ k → y ≤ k → cond b x y ≤ k
-either-most true p q = p
-either-most false p q = q
-
-days-most : (year month : ℕ) → daysIn year month ≤ 31
-unfolding daysIn
-days-most year month =
-    either-most (eqb month 2) (either-most (eqb (year % 4) 0) (omega arith) (omega arith))
-    (either-most (oneOf (4 ∷ 6 ∷ 9 ∷ 11 ∷ []) month) (omega arith) (omega arith))
-
 module _ (t : ClockType.Clock) (e : clockInRange t ≡ true) where
   clock-bytes : AllBytes (clockNumbers t)
   unfolding clockInRange
-  clock-bytes = let h = simp and-eq-true-iff at e in omega (arith, leb-true, days-most (t .year) (t .month))
+  clock-bytes = let h = simp and-eq-true-iff at e in omega (arith, leb-true, days-31 (t .year) (t .month))
 
   clock-record : clockFrom (map pos (clockNumbers t)) ≡ t
   unfolding clockFrom
