@@ -1,6 +1,6 @@
 -- Laws of a body's letters as they are read: its first n bytes, where n is how many letters it begins with.
 -- Assumes nothing.
-use Prim.Native.Nat.{ℕ, zero, suc, _-_, _≤_, _<_}
+use Prim.Native.Nat.{ℕ, zero, suc, _+_, _-_, _≤_, _<_, min}
 use mathlib.Core.Path.{_≡_, refl, sym, ap, _∙_}
 use mathlib.Core.Bool.{true, false}
 use mathlib.Core.List.{List, [], _∷_, map}
@@ -15,6 +15,8 @@ use Rattle.rules.specs.declared.Behind.{Behind}
 use Rattle.rules.specs.declared.Frame.the-variants.{Message}
 use Rattle.rules.specs.declared.Message.the-variants.{OtherLetters}
 use Rattle.rules.specs.declared.Reading.the-variants.{Good}
+use Rattle.kpa.specs.Words.{leadOf}
+use Rattle.kpa.specs.declared.letters.Lead.{Lead}
 use Rattle.frame_laws.proofs.Bytes.{answer}
 use Rattle.frame_laws.proofs.Letters.{run-front, run-length, in-capitals}
 use Rattle.frame_laws.proofs.Listed.{long-unlisted}
@@ -64,13 +66,25 @@ module _ (body : List ℕ) {n : ℕ} (e : n ≡ length (letterRun body)) where
   rest = take-all (length body - n) (drop n body) (omega (arith, length-drop n body)) ∙ rw e
 
   -- A body says what its letters allow behind them; more letters than a number holds are none of the listed ones.
-  pub told : {w : ℕ} {k : Behind} → w ≡ word (map capital (take n body)) → behind w ≡ k
+  pub told : {w : ℕ} {k : Behind} → w ≡ word (lettersIn body) → behind w ≡ k
       → readBehind w (asLetters (lettersIn body)) k (take (length body - n) (drop n body)) ≡ readBody body
   unfolding readBody
-  told {w} p q =
-      let all : w ≡ word (lettersIn body) = p ∙ rw run in
-      rw (rest, ← all, q)
+  told p q = rw (rest, ← p, q)
 
-  pub told-other : 4 < n → Good (Message (OtherLetters (asLetters (map capital (take n body))))) ≡ readBody body
+-- What the first letters tell: how many there are, and their number, where that holds them all.
+module _ (body : List ℕ) {n w : ℕ} (e : record { count = n; word = w } ≡ leadOf body) where
+  pub counted : n ≡ min (length (letterRun body)) (4 + 1)
+  unfolding leadOf
+  counted = ap (λ (l : Lead). l .count) e
+
+  pub long-other : 4 < n → Good (Message (OtherLetters (asLetters (lettersIn body)))) ≡ readBody body
   unfolding readBody
-  told-other h = rw (run, long-unlisted (lettersIn body) (in-capitals body) (rw length-map (omega arith)))
+  long-other h = rw (long-unlisted (lettersIn body) (in-capitals body) (rw length-map (omega (arith, counted))))
+
+  module _ (h : n ≤ 4) where
+    pub all-counted : n ≡ length (letterRun body)
+    all-counted = omega (arith, counted)
+
+    pub all-told : w ≡ word (lettersIn body)
+    unfolding leadOf
+    all-told = ap (λ (l : Lead). l .word) e ∙ ap word (take-all 4 (lettersIn body) (rw length-map (omega (arith, all-counted))))

@@ -1,12 +1,13 @@
 // The letters of a message: the run of them that a body begins with, and letters as numbers, four to each.
 use rules::Letters;
+use rules::WORD_LETTERS;
 use texts::text;
 ghost use mathlib.Core.Path.{_≡_};
 ghost use mathlib.Core.List.{map};
 ghost use Prim.Native.Nat.{_≤_};
 ghost use lib.ListN.{length};
-ghost use Rattle.rules.specs.Messages.{isLetter, capital, letterRun, word, wordAt, wordLetters, asLetters};
-ghost use Rattle.kpa.specs.Words.{wordBytes};
+ghost use Rattle.rules.specs.Messages.{isLetter, capital, letterRun, lettersIn, word, wordAt, wordLetters, asLetters};
+ghost use Rattle.kpa.specs.Words.{wordBytes, leadOf};
 
 // Whether b is a letter, in either case.
 pub fn is_letter(b: u8) -> bool
@@ -25,8 +26,36 @@ fn capital_of(b: u8) -> u8
     b
 }
 
+// The letters that a body begins with: how many, counted to one more than a number holds; and the first of them as a number.
+pub(crate) struct Lead {
+    pub(crate) count: usize,
+    pub(crate) word: u32,
+}
+
+// Nothing is looked at behind the first letter that a number has no place for.
+pub(crate) fn lead_of(body: &[u8]) -> Lead
+    ensures { λ r. ⌜ r ≡ leadOf (now (body .entry)) ⌝ }
+{
+    let mut word: u32 = 0;
+    let mut count = 0;
+    while count < body.len() {
+        if !is_letter(body[count]) {
+            break;
+        }
+        if count == WORD_LETTERS {
+            return Lead {
+                count: count + 1,
+                word,
+            };
+        }
+        word = word * 256 + capital_of(body[count]) as u32;
+        count += 1;
+    }
+    Lead { count, word }
+}
+
 // How many letters the bytes begin with.
-pub(crate) fn letter_run(s: &[u8]) -> usize
+fn letter_run(s: &[u8]) -> usize
     ensures { λ r. ⌜ r ≡ length (letterRun (now (s .entry))) ⌝ }
 {
     let mut n = 0;
@@ -40,7 +69,7 @@ pub(crate) fn letter_run(s: &[u8]) -> usize
 }
 
 // Up to four letters as one number.
-pub(crate) fn word_of(letters: &[u8]) -> u32
+fn word_of(letters: &[u8]) -> u32
     requires { ⌜ length (now letters) ≤ 4 ⌝ }
     ensures { λ r. ⌜ r ≡ word (map capital (now (letters .entry))) ⌝ }
 {
@@ -62,7 +91,7 @@ fn word_at(letters: &[u8], k: usize) -> u32
 }
 
 // Letters as ten numbers, four in each.
-pub(crate) fn letters_of(letters: &[u8]) -> Letters
+fn letters_of(letters: &[u8]) -> Letters
     ensures { λ r. ⌜ r ≡ asLetters (map capital (now (letters .entry))) ⌝ }
 {
     Letters {
@@ -77,6 +106,13 @@ pub(crate) fn letters_of(letters: &[u8]) -> Letters
         ninth: word_at(letters, 8),
         tenth: word_at(letters, 9),
     }
+}
+
+// All letters that a body begins with, as ten numbers.
+pub(crate) fn all_letters(body: &[u8]) -> Letters
+    ensures { λ r. ⌜ r ≡ asLetters (lettersIn (now (body .entry))) ⌝ }
+{
+    letters_of(&body[..letter_run(body)])
 }
 
 // The four bytes of a number that holds letters: these are the last ones, with zeros in front.

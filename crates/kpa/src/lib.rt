@@ -6,9 +6,8 @@ use crate::behind::read_clock;
 use crate::behind::read_number;
 use crate::behind::read_tune;
 use crate::behind::read_version;
-use crate::letters::letter_run;
-use crate::letters::letters_of;
-use crate::letters::word_of;
+use crate::letters::all_letters;
+use crate::letters::lead_of;
 pub use letters::is_letter;
 pub use letters::word_bytes;
 pub use letters::word_length;
@@ -23,10 +22,9 @@ use rules::SHORTEST_MESSAGE;
 use rules::WORD_LETTERS;
 use texts::text_byte;
 ghost use mathlib.Core.Path.{_≡_};
-ghost use mathlib.Core.List.{map};
 ghost use mathlib.Core.Bool.{_&&_};
 ghost use Rattle.rules.specs.Bytes.{every, first};
-ghost use Rattle.rules.specs.Messages.{isBodyByte, isLetter, isMessage, capital, asLetters, behind};
+ghost use Rattle.rules.specs.Messages.{isBodyByte, isLetter, isMessage, lettersIn, asLetters, behind};
 ghost use Rattle.rules.specs.Answers.{messages, Reads, isGood, readBehind, readBody};
 ghost use Rattle.rules.specs.declared.Frame.the-variants.{Message as FrameOf};
 ghost use Rattle.rules.specs.declared.Letters.{Letters};
@@ -48,14 +46,15 @@ pub fn read_message(s: &[u8]) -> Reading
 pub fn is_good_body(body: &[u8]) -> bool
     ensures { λ r. ⌜ r ≡ (isLetter (first (now (body .entry))) && isGood (readBody (now (body .entry)))) ⌝ }
 {
-    let n = letter_run(body);
+    let lead = lead_of(body);
+    let n = lead.count;
     if n == 0 {
         return false;
     }
     if WORD_LETTERS < n {
         return true;
     }
-    is_good_behind(word_of(&body[..n]), &body[n..])
+    is_good_behind(lead.word, &body[n..])
 }
 
 // Whether letters and what stands behind them are good, whatever the letters are told as.
@@ -118,28 +117,29 @@ fn are_body_bytes(body: &[u8]) -> bool
     true
 }
 
-// Letters that are not listed.
-fn other(letters: &[u8]) -> Reading
-    ensures { λ r. ⌜ r ≡ Good (FrameOf (OtherLetters (asLetters (map capital (now (letters .entry)))))) ⌝ }
+// A body whose letters are not listed.
+fn other(body: &[u8]) -> Reading
+    ensures { λ r. ⌜ r ≡ Good (FrameOf (OtherLetters (asLetters (lettersIn (now (body .entry)))))) ⌝ }
 {
-    Reading::Good(Frame::Message(Message::OtherLetters(letters_of(letters))))
+    Reading::Good(Frame::Message(Message::OtherLetters(all_letters(body))))
 }
 
 // What a body says, by its letters. All listed ones are shorter than what a single number holds.
 fn read_body(body: &[u8]) -> Reading
     ensures { λ r. ⌜ r ≡ readBody (now (body .entry)) ⌝ }
 {
-    let n = letter_run(body);
+    let lead = lead_of(body);
+    let n = lead.count;
     if WORD_LETTERS < n {
-        return other(&body[..n]);
+        return other(body);
     }
-    let word = word_of(&body[..n]);
+    let word = lead.word;
     let rest = &body[n..];
     match behind_letters(word) {
         Behind::ANumber(width, limit) => read_number(word, width, limit, rest),
         Behind::AVersion => read_version(word, rest),
         Behind::AClock => read_clock(word, rest),
         Behind::Alone => read_tune(rest),
-        Behind::Anything => other(&body[..n]),
+        Behind::Anything => other(body),
     }
 }

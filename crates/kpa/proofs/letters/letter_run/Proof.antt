@@ -1,32 +1,17 @@
 -- `kpa::letters::letter_run` meets its contract. The loop's invariant: the run is n letters and those that the bytes from n on
 -- begin with. The measure is what is left of the bytes.
 -- Assumes nothing.
-use Prim.Native.Nat.{ℕ, suc, _+_, _-_, _≤_, _<_}
-use mathlib.Core.Path.{_≡_, sym, _∙_}
-use mathlib.Core.Bool.{true, false}
-use mathlib.Core.List.{List}
+use Prim.Native.Nat.{_+_, _-_, _≤_}
+use mathlib.Core.Path.{_≡_, sym, ap, _∙_}
 use native.Mathlib.Omega.{arith}
-use lib.ListN.{length, drop, getD}
+use lib.ListN.{length, drop}
 use denote.Ref.{now}
 use borrow.Author.Needs.{needs}
 use borrow.Author.Tests.{not-true, not-false}
-use Rattle.rules.specs.Messages.{isLetter, letterRun}
-use Rattle.texts.proofs.Steps.{at, done}
+use Rattle.rules.specs.Messages.{letterRun}
+use Rattle.kpa.proofs.Steps.{ends, goes-on, no-more}
 use Rattle.kpa.proofs.letters.letter_run.Statement.{statement}
 use Rattle.kpa.proofs.letters.letter_run.Tie as tie
-
-module _ (s : List ℕ) (n : ℕ) where
-  ends : n < length s → isLetter (getD s n 0) ≡ false → length (letterRun (drop n s)) ≡ 0
-  unfolding letterRun
-  ends h e = rw (at s n h, e)
-
-  goes-on : n < length s → isLetter (getD s n 0) ≡ true → length (letterRun (drop n s)) ≡ suc (length (letterRun (drop (n + 1) s)))
-  unfolding letterRun
-  goes-on h e = rw (at s n h, e)
-
-  no-more : length s ≤ n → length (letterRun (drop n s)) ≡ 0
-  unfolding letterRun
-  no-more h = rw (done s n h)
 
 abbrev Inv-loop : tie.InvT-loop
 Inv-loop s n₀ n = (n ≤ length s) × (length (letterRun s) ≡ n + length (letterRun (drop n s)))
@@ -46,7 +31,7 @@ is-letter-requires c κs = search needs
 returns : tie.Need-returns Inv-loop μ-loop
 returns c =
     let head = c .before .before .before .before in
-    omega (arith, ends (now (head .before .before .args .s)) (head .loop .n) (omega arith) (sym (c .before .is-letter .ensures) ∙ not-true _ (c .if1 .taken)))
+    omega (arith, ap length (ends (now (head .before .before .args .s)) (head .loop .n) (omega arith) (sym (c .before .is-letter .ensures) ∙ not-true _ (c .if1 .taken))))
 
 add-n : tie.Need-add-n Inv-loop μ-loop
 add-n c = omega arith
@@ -57,10 +42,10 @@ loop-less c = omega arith
 loop-again : tie.Need-loop-again Inv-loop μ-loop
 loop-again c =
     let head = c .before .before .before .before in
-    omega (arith, goes-on (now (head .before .before .args .s)) (head .loop .n) (omega arith) (sym (c .before .is-letter .ensures) ∙ not-false _ (c .if1 .left)))
+    omega (arith, ap length (goes-on (now (head .before .before .args .s)) (head .loop .n) (omega arith) (sym (c .before .is-letter .ensures) ∙ not-false _ (c .if1 .left))))
 
 returns-2 : tie.Need-returns-2 Inv-loop μ-loop
-returns-2 c = omega (arith, no-more (now (c .before .before .before .args .s)) (c .before .loop .n) (omega arith))
+returns-2 c = omega (arith, ap length (no-more (now (c .before .before .before .args .s)) (c .before .loop .n) (omega arith)))
 
 pub letter-run-spec : {M : Type 1} → statement M
 letter-run-spec =

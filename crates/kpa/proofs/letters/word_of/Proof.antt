@@ -4,16 +4,13 @@
 use Prim.Native.Nat.{ℕ, _+_, _-_, _*_, _^_, _≤_, _<_}
 use mathlib.Core.Path.{_≡_, refl, sym, _∙_}
 use mathlib.Core.List.{List, map}
-use native.Mathlib.Nat.{lt-of-lt-of-le, pow-suc, pow-le-pow-right}
-use native.Mathlib.Numerals.{add-one}
 use native.Mathlib.Omega.{arith}
-use lib.Arith.{digits-lt}
-use lib.Dec.{lit<}
 use lib.ListN.{length, drop, getD}
 use denote.Ref.{now}
 use borrow.Author.Needs.{needs}
 use Rattle.rules.specs.Messages.{capital, wordFrom, word}
 use Rattle.texts.proofs.Steps.{at, done}
+use Rattle.kpa.proofs.Steps.{small, grown}
 use Rattle.kpa.proofs.letters.word_of.Statement.{statement}
 use Rattle.kpa.proofs.letters.word_of.Tie as tie
 
@@ -25,13 +22,6 @@ module _ (t : List ℕ) (i n : ℕ) where
   end-read : length t ≤ i → wordFrom n (map capital (drop i t)) ≡ n
   unfolding wordFrom
   end-read h = rw (done t i h)
-
--- i letters make a number below 256 ^ i, and with i at most 3 one that can grow by a letter
-small : {n i : ℕ} → n < 256 ^ i → i ≤ 3 → n < 2 ^ 24
-small h k = lt-of-lt-of-le h (pow-le-pow-right (lit< tt) k)
-
-grown : {n b : ℕ} (i : ℕ) → n < 256 ^ i → b < 256 → n * 256 + b < 256 ^ (i + 1)
-grown i h k = rw (add-one, pow-suc) (digits-lt h k)
 
 abbrev Inv-loop : tie.InvT-loop
 Inv-loop letters n₀ i₀ n i =
