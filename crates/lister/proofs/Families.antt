@@ -9,15 +9,9 @@ use Rattle.rules.specs.Answers.{isFamily}
 use Rattle.stream_rules.specs.Heads.{isSpe}
 use Rattle.lister.specs.GoodLengths.{IsBracketed}
 
--- the family that is none of the three others
-pub replies-else : (family : ℕ) → isFamily family ≡ true → (family ≡ 2 → ⊥) → (family ≡ 3 → ⊥) → (family ≡ 4 → ⊥) → family ≡ 1
-unfolding oneOf
-replies-else family known not-2 not-3 not-4 =
-    by (eqb family 1) refl (rw (ne-eqb family 2 not-2, ne-eqb family 3 not-3, ne-eqb family 4 not-4) at known)
-  where
-    by : (a : Bool) → eqb family 1 ≡ a → (a || false) ≡ true → family ≡ 1
-    by true e k = eqb-true family 1 e
-    by false e k = absurd (false≢true k)
+-- a family that is no packets' is one of brackets
+pub bracketed-else : (family : ℕ) → isFamily family ≡ true → (family ≡ 1 → ⊥) → (family ≡ 3 → ⊥) → IsBracketed family
+bracketed-else family known not-1 not-3 = (rw (ne-eqb family 1 not-1, ne-eqb family 3 not-3), known)
 
 -- of those between brackets, the one that is not 4
 pub sentences-else : (family : ℕ) → IsBracketed family → (family ≡ 4 → ⊥) → family ≡ 2

@@ -6,12 +6,11 @@ use crate::steps::may_begin;
 use crate::steps::next_command;
 use crate::steps::reply_length;
 use rules::COMMANDS;
-use rules::MESSAGES;
 use rules::NO_FAMILY;
 use rules::NO_ROOM;
 use rules::PACKET_LENGTH;
+use rules::REPLIES;
 use rules::REPLY_MARK;
-use rules::SENTENCES;
 use rules::TOO_LONG;
 use starts::brackets_of;
 use starts::inner_bytes;
@@ -120,10 +119,9 @@ fn fill_starts(family: u8, capture: &[u8], starts: &mut [u32]) -> usize
     ensures { λ r. ⌜ Fills family (now (capture .entry)) (now (starts .entry)) r (now (starts .exit)) ⌝ }
 {
     match family {
-        SENTENCES => fill_bracketed(SENTENCES, capture, starts),
+        REPLIES => fill_replies(capture, starts),
         COMMANDS => fill_commands(capture, starts),
-        MESSAGES => fill_bracketed(MESSAGES, capture, starts),
-        _ => fill_replies(capture, starts),
+        _ => fill_bracketed(family, capture, starts),
     }
 }
 

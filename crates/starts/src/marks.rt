@@ -1,12 +1,11 @@
 // What a start of an SPE packet is known by: the mark of its family, and how many bytes it needs; and the longest and the
 // shortest frame of any family.
+use crate::brackets::brackets_of;
 use crate::families::is_spe;
 use rules::CODE_COUNT;
 use rules::COMMAND_MARK;
 use rules::COMMANDS;
-use rules::LONGEST_MESSAGE;
 use rules::LONGEST_REPORT;
-use rules::LONGEST_SENTENCE;
 use rules::MESSAGES;
 use rules::PACKET_LENGTH;
 use rules::REPLIES;
@@ -56,10 +55,8 @@ pub fn longest_frame(family: u8) -> usize
     if family == COMMANDS {
         return PACKET_LENGTH;
     }
-    if family == MESSAGES {
-        return LONGEST_MESSAGE;
-    }
-    LONGEST_SENTENCE
+    let k = brackets_of(family);
+    k.most + (k.tail + 2)
 }
 
 // The shortest frame of a family.
