@@ -193,14 +193,12 @@ static void lay_letters(const uint8_t *b, int64_t *v)
 }
 
 /* Nothing is laid before the message is known to be good: a row of another
- * answer has to be as it was behind its head.  Nothing is read behind the
- * semicolon, so that it does not matter how many bytes are left there. */
-int read_message(const uint8_t *b, size_t end, size_t left, int64_t *row)
+ * answer has to be as it was behind its head. */
+int read_message(const uint8_t *b, size_t end, int64_t *row)
 {
     struct message m = taken_apart(b, end);
     int kind = kind_of(m);
 
-    (void)left;
     if (kind == 0)
         return 0;
     row[AMP_KIND] = kind;

@@ -13,8 +13,9 @@
 size_t list_messages(const uint8_t *s, size_t n, uint32_t *starts, size_t room);
 
 /* Whether a good message stands at b, its caret b[0], its semicolon b[end] and
- * all between them seen to be text; left bytes may be read.  If so, its kind,
- * its code and its values are laid in the row, which has room; else nothing is. */
-int read_message(const uint8_t *b, size_t end, size_t left, int64_t *row);
+ * all between them seen to be text; nothing behind it is read.  If so, its
+ * kind, its code and its values are laid in the row, which has room; else
+ * nothing is. */
+int read_message(const uint8_t *b, size_t end, int64_t *row);
 
 #endif

@@ -217,7 +217,7 @@ static inline int ends_at_message(struct walk *w, int64_t *row)
     if (end == left && left < LONGEST_MESSAGE) {
         if (!w->closed)
             return 1;
-    } else if (end < most && s[end] == ';' && read_message(s, end, left, row)) {
+    } else if (end < most && s[end] == ';' && read_message(s, end, row)) {
         w->length = end + 1;
         return 1;
     }

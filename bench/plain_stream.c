@@ -339,7 +339,7 @@ APART uint32_t feed_semicolon(amp_reader *reader, const uint8_t *offered, int64_
     size_t count = reader->count;
 
     put_block(reader->held + (count - count % BLOCK), filled(reader, ';'));
-    if (!read_message(reader->held, count, HELD, row))
+    if (!read_message(reader->held, count, row))
         return settle_offered(reader, offered, 1, 1, row);
     clear_all(reader);
     return hand_out(reader, 0, count + 1, 1, row);
@@ -358,7 +358,7 @@ APART uint32_t feed_text(amp_reader *reader, const uint8_t *offered, size_t n,
         return take_all(reader, offered, n, row);
     if (behind < room && offered[behind] == ';') {
         move_bytes(reader->held + count, offered, behind + 1);
-        if (read_message(reader->held, count + behind, HELD, row)) {
+        if (read_message(reader->held, count + behind, row)) {
             clear_all(reader);
             return hand_out(reader, 0, count + behind + 1, behind + 1, row);
         }
@@ -379,7 +379,7 @@ APART uint32_t feed_caret(amp_reader *reader, const uint8_t *offered, size_t n,
     end = text_end(offered, 1, most, of_message);
     if (end == n && n < LONGEST_MESSAGE)
         return keep_all(reader, offered, n, row);
-    if (end == most || offered[end] != ';' || !read_message(offered, end, n, row))
+    if (end == most || offered[end] != ';' || !read_message(offered, end, row))
         return settle_offered(reader, offered, n, end, row);
     return hand_out(reader, 0, end + 1, end + 1, row);
 }
