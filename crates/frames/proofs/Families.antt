@@ -4,13 +4,17 @@ use Prim.Native.Nat.{ℕ}
 use mathlib.Core.Path.{_≡_, refl}
 use mathlib.Core.List.{List}
 use borrow.Author.Tests.{ne-eqb}
-use Rattle.rules.specs.Answers.{readOne, readFamily1, readFamily3}
+use Rattle.rules.specs.Answers.{readOne, readFamily1, readFamily2, readFamily3}
 use Rattle.rules.specs.declared.Reading.the-variants.{Refused}
 
 module _ (bs : List ℕ) where
   pub family1 : readFamily1 bs ≡ readOne 1 bs
   unfolding readOne
   family1 = refl
+
+  pub family2 : readFamily2 bs ≡ readOne 2 bs
+  unfolding readOne
+  family2 = refl
 
   pub family3 : readFamily3 bs ≡ readOne 3 bs
   unfolding readOne
