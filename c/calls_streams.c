@@ -153,16 +153,22 @@ static void comma_behind(void)
           comma_5, AMP_STATUS_VALUES);
 }
 
+/* Makes a reader that holds the most bytes that its family allows, of which none begins a frame: all are skipped. */
+static void skips_most(amp_reader *reader, uint32_t family, uint8_t most)
+{
+    check(amp_fresh(reader, family) == 0, "fresh");
+    memset(reader->held, 7, sizeof reader->held);
+    reader->count = most;
+    feeds("the most held", reader, NOTHING, HEAD(AMP_MORE, 0, 0, 0, 0, 0), NULL, 0);
+    check(reader->count == 0 && reader->at == most && reader->skipped == most, "the most skipped");
+}
+
 /* The most bytes that a reader of family 1 may hold: any, a whole report, and one that wants its last byte. */
 static void holds_most(void)
 {
     amp_reader reader;
 
-    check(amp_fresh(&reader, 1) == 0, "fresh");
-    memset(reader.held, 7, sizeof reader.held);
-    reader.count = 75;
-    feeds("75 bytes held", &reader, NOTHING, HEAD(AMP_MORE, 0, 0, 0, 0, 0), NULL, 0);
-    check(reader.count == 0 && reader.at == 75 && reader.skipped == 75, "75 bytes skipped");
+    skips_most(&reader, 1, 75);
     memcpy(reader.held, CASE_5, 75);
     reader.count = 75;
     feeds("a report held", &reader, zeros, 1, HEAD(AMP_STATUS, 0, 0, 75, 75, 75),
@@ -226,11 +232,7 @@ static void holds_most_messages(void)
 {
     amp_reader reader;
 
-    check(amp_fresh(&reader, 4) == 0, "fresh");
-    memset(reader.held, 7, sizeof reader.held);
-    reader.count = 39;
-    feeds("39 bytes held", &reader, NOTHING, HEAD(AMP_MORE, 0, 0, 0, 0, 0), NULL, 0);
-    check(reader.count == 0 && reader.at == 39 && reader.skipped == 39, "39 bytes skipped");
+    skips_most(&reader, 4, 39);
     memcpy(reader.held, OTHER_38, 39);
     reader.count = 39;
     feeds("its semicolon wanted", &reader, NOTHING, HEAD(AMP_MORE, 0, 0, 0, 0, 0), NULL, 0);

@@ -65,13 +65,14 @@ module _ (body : List ℕ) {n : ℕ} (e : n ≡ length (letterRun body)) where
   rest : take (length body - n) (drop n body) ≡ behindLetters body
   rest = take-all (length body - n) (drop n body) (omega (arith, length-drop n body)) ∙ rw e
 
-  -- A body says what its letters allow behind them; more letters than a number holds are none of the listed ones.
+  -- A body says what its letters allow behind them.
   pub told : {w : ℕ} {k : Behind} → w ≡ word (lettersIn body) → behind w ≡ k
       → readBehind w (asLetters (lettersIn body)) k (take (length body - n) (drop n body)) ≡ readBody body
   unfolding readBody
   told p q = rw (rest, ← p, q)
 
--- What the first letters tell: how many there are, and their number, where that holds them all.
+-- What the first letters tell: how many there are, and their number, where that holds them all; more than it holds are none of
+-- the listed ones.
 module _ (body : List ℕ) {n w : ℕ} (e : record { count = n; word = w } ≡ leadOf body) where
   pub counted : n ≡ min (length (letterRun body)) (4 + 1)
   unfolding leadOf
