@@ -1,19 +1,20 @@
 -- Demand 3 of each family, from its own facts: the theorems about sessions, about the rule and about the lister hold of
--- families 1 to 4. They speak of `fed`, `shut`, `fresh` and `Lists`, which the functions that run give.
+-- families 1 to 4. They speak of whatever meets the promises `Makes`, `Feeds`, `Shuts` and `Lists`, which the functions that
+-- run meet.
 -- Assumes nothing.
 use Prim.Native.Nat.{ℕ}
 use mathlib.Core.Path.{_≡_}
 use mathlib.Core.Bool.{true}
-use mathlib.Core.List.{List, _++_, map}
+use mathlib.Core.List.{List, map}
 use lib.ListN.{length, take}
 use Rattle.rules.specs.Answers.{isFamily}
 use Rattle.stream_rules.specs.Rule.{Found}
-use Rattle.stream_rules.specs.Streams.{wrap, fresh}
+use Rattle.stream_rules.specs.Streams.{wrap, Makes}
 use Rattle.stream_rules.specs.Lister.{frames, startsOf, Lists}
 use Rattle.stream_rules.specs.declared.Answer.{Answer}
 use Rattle.stream_rules.specs.declared.Turned.{Turned}
 use Rattle.stream_rules.specs.declared.Listed.the-variants.{Count}
-use Rattle.stream_laws.specs.Sessions.{Session, handed, Demand3}
+use Rattle.stream_laws.specs.Sessions.{Session, Following, joined, handed, Demand3}
 use Rattle.stream_laws.specs.Earliest.{EarliestFirst}
 use Rattle.stream_laws.proofs.Sessions as sessions
 use Rattle.stream_laws.proofs.Possible as sessions-there
@@ -30,12 +31,16 @@ module _ (family : ℕ) (known : isFamily family ≡ true) where
   pub earliest-first-is-the-rule : (stream : List ℕ) (fs : List Found) → EarliestFirst family stream 0 fs → fs ≡ frames family stream
   earliest-first-is-the-rule = earliest.frames-only family (facts family)
 
-  module _ (t : Turned) (begins : t ≡ fresh family) (stream lengths : List ℕ) where
-    -- However the first calls cut the stream, a session goes on from there to its end.
-    pub sessions-end : (more : List ℕ) × (answers : List Answer) × Session (t .reader) stream (lengths ++ more) answers
-    sessions-end = sessions-there.possible family known (facts family) t begins stream lengths
+  module _ (t : Turned) (begins : Makes family t) where
+    -- However a stream is cut, there is a session that follows the cut, and it is one of those below.
+    pub sessions-end : (pieces : List (List ℕ)) → (answers : List Answer) × Following (t .reader) pieces answers
+    sessions-end = sessions-there.possible family known t begins
 
-    module _ (answers : List Answer) (session : Session (t .reader) stream lengths answers) where
+    pub following-is-session : (pieces : List (List ℕ)) (answers : List Answer) → Following (t .reader) pieces answers
+        → (lengths : List ℕ) × Session (t .reader) (joined pieces) lengths answers
+    following-is-session pieces answers = sessions-there.followed
+
+    module _ (stream lengths : List ℕ) (answers : List Answer) (session : Session (t .reader) stream lengths answers) where
       -- Demand 3, of every session.
       pub every-session : Demand3 family stream answers
       every-session = sessions.demand3 family known (facts family) t begins stream lengths answers session

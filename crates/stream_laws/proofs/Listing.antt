@@ -16,7 +16,7 @@ use Rattle.rules.specs.Answers.{readOne, noFamily, noRoom, isFamily}
 use Rattle.rules.specs.declared.Reading.the-variants.{Good}
 use Rattle.stream_rules.specs.Heads.{Head, wait, bad, good, longest, head, atClose}
 use Rattle.stream_rules.specs.Rule.{Found, Look, ready, waiting, byHead, byLook, look, rule}
-use Rattle.stream_rules.specs.Streams.{wrap, fresh}
+use Rattle.stream_rules.specs.Streams.{wrap, Makes}
 use Rattle.stream_rules.specs.Lister.{frames, startsOf, tooLong, fits, Lists, firstFrame, firstPlace}
 use Rattle.stream_rules.specs.declared.Answer.{Answer}
 use Rattle.stream_rules.specs.declared.Listed.{Listed}
@@ -188,7 +188,7 @@ lists-fit family capture out answer n after lists counts =
     omega (arith, size, length-map fs (λ (f : Found). f .start), says .3)
 
 -- The reader's starts are the lister's, modulo 2^32; and on a capture its frames are the rule's, with nothing wrapped.
-module _ (family : ℕ) (known : isFamily family ≡ true) (facts : Facts (head family) (longest family)) (t : Turned) (begins : t ≡ fresh family)
+module _ (family : ℕ) (known : isFamily family ≡ true) (facts : Facts (head family) (longest family)) (t : Turned) (begins : Makes family t)
     (stream lengths : List ℕ) (answers : List Answer) (session : Session (t .reader) stream lengths answers) where
   pub starts-agree : startsOf (handed answers) ≡ map wrap (startsOf (frames family stream))
   starts-agree = ap startsOf (demand3 family known facts t begins stream lengths answers session .list) ∙ starts-wrapped (frames family stream)

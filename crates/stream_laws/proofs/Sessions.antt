@@ -15,7 +15,7 @@ use Rattle.rules.specs.Bytes.{every}
 use Rattle.rules.specs.declared.Frame.{Frame}
 use Rattle.stream_rules.specs.Heads.{Head, longest, head, atClose}
 use Rattle.stream_rules.specs.Rule.{Found, Look, ready, waiting, look, rule, Call, gives, wants, call}
-use Rattle.stream_rules.specs.Streams.{wrap, holding, openCall, closedCall, fed, shut, fresh}
+use Rattle.stream_rules.specs.Streams.{wrap, holding, openCall, closedCall, fed, shut, fresh, Makes}
 use Rattle.stream_rules.specs.declared.Reader.{Reader}
 use Rattle.stream_rules.specs.declared.Answer.{Answer}
 use Rattle.stream_rules.specs.declared.Answer.the-variants.{Ready, More, Done}
@@ -261,15 +261,15 @@ module _ (family : ℕ) (known : isFamily family ≡ true) (facts : Facts (head 
   drained (Draining.calls {answers = answers} a e later) bytes at skipped s few =
       subst
       (λ (b : Fed). ClosedTells family (b .reader) answers → Tells (longest family) (at + length bytes) 0 (rule (head family) 0 at skipped bytes) (b .answer ∷ answers))
-      (sym (e ∙ ap (λ (r : Reader). fed r []) s ∙ fed-closed family known bytes few at skipped))
+      (sym (e .answers ∙ ap (λ (r : Reader). fed r []) s ∙ fed-closed family known bytes few at skipped))
       (closed-tells answers bytes at skipped few (look (atClose (head family)) bytes) refl)
       (λ bytes′ at′ skipped′ s′ few′. drained later bytes′ at′ skipped′ s′ few′)
   drained (Draining.closes-again t e later) bytes at skipped s few =
-      drained later bytes at skipped (ap (λ (u : Turned). u .reader) (e ∙ ap shut s ∙ shut-holding family known bytes few at skipped 1)) few
+      drained later bytes at skipped (ap (λ (u : Turned). u .reader) (e .answers ∙ ap shut s ∙ shut-holding family known bytes few at skipped 1)) few
   drained (Draining.ends a n e done) bytes at skipped s few =
       subst
       (λ (b : Fed). b .answer ≡ Done n → Tells (longest family) (at + length bytes) 0 (rule (head family) 0 at skipped bytes) (b .answer ∷ []))
-      (sym (e ∙ ap (λ (r : Reader). fed r []) s ∙ fed-closed family known bytes few at skipped))
+      (sym (e .answers ∙ ap (λ (r : Reader). fed r []) s ∙ fed-closed family known bytes few at skipped))
       (end-tells bytes at skipped n (look (atClose (head family)) bytes) refl)
       done
 
@@ -280,14 +280,14 @@ module _ (family : ℕ) (known : isFamily family ≡ true) (facts : Facts (head 
       (λ (b : Fed).
       OpenTells family (b .reader) (drop (takenOf (b .answer)) left) answers
       → Tells (longest family) (at + length bytes) (length left) (rule (head family) 0 at skipped (bytes ++ left)) (b .answer ∷ answers))
-      (sym (e ∙ ap (λ (r : Reader). fed r (take most left)) s ∙ fed-open family known bytes few at skipped (take most left)))
+      (sym (e .answers ∙ ap (λ (r : Reader). fed r (take most left)) s ∙ fed-open family known bytes few at skipped (take most left)))
       (call-tells left most answers bytes at skipped few (call (head family) bytes (take most left)) refl)
       (λ bytes′ at′ skipped′ s′ few′. told later bytes′ at′ skipped′ s′ few′)
   told (Session.closes {answers = answers} t e later) bytes at skipped s few =
       subst
       (λ (l : List ℕ). Tells (longest family) (at + length bytes) 0 (rule (head family) 0 at skipped l) answers)
       (sym (append-nil bytes))
-      (drained later bytes at skipped (ap (λ (u : Turned). u .reader) (e ∙ ap shut s ∙ shut-holding family known bytes few at skipped 0)) few)
+      (drained later bytes at skipped (ap (λ (u : Turned). u .reader) (e .answers ∙ ap shut s ∙ shut-holding family known bytes few at skipped 0)) few)
 
 pub fresh-holding : (family : ℕ) → isFamily family ≡ true → (t : Turned) → t ≡ fresh family → t .reader ≡ holding family 0 [] 0 0
 unfolding fresh
@@ -295,7 +295,7 @@ fresh-holding family known t e = ap (λ (u : Turned). u .reader) e ∙ rw known
 
 -- Demand 3: take a fresh reader and a stream, cut into calls anywhere.
 pub demand3 : (family : ℕ) → isFamily family ≡ true → Facts (head family) (longest family)
-    → (t : Turned) → t ≡ fresh family
+    → (t : Turned) → Makes family t
     → (stream lengths : List ℕ) (answers : List Answer) → Session (t .reader) stream lengths answers → Demand3 family stream answers
 demand3 family known facts t e stream lengths answers session =
-    told family known facts session [] 0 0 (fresh-holding family known t e) (top-above (head family) (longest family) facts)
+    told family known facts session [] 0 0 (fresh-holding family known t (e .answers)) (top-above (head family) (longest family) facts)

@@ -13,7 +13,7 @@ use lib.Seq.{take-append-seam}
 use Rattle.rules.specs.Answers.{noFamily, isFamily}
 use Rattle.stream_rules.specs.Heads.{sentenceBrackets, messageBrackets, around, longest, head, atClose}
 use Rattle.stream_rules.specs.Rule.{Look, ready, waiting, look, Call, gives, wants, call}
-use Rattle.stream_rules.specs.Streams.{wrap, holds, heldOf, holding, isClosed, holdsTooMuch, refuse, goOn, openCall, closedCall, fed, shut, fresh}
+use Rattle.stream_rules.specs.Streams.{wrap, holds, heldOf, holding, isClosed, holdsTooMuch, refuse, goOn, openCall, closedCall, fed, shut, fresh, Feeds}
 use Rattle.stream_rules.specs.declared.Reader.{Reader}
 use Rattle.stream_rules.specs.declared.Ready as ReadyType
 use Rattle.stream_rules.specs.declared.Answer.the-variants.{Ready, Done}
@@ -22,7 +22,7 @@ use Rattle.stream_rules.specs.declared.Outcome.the-variants.{Accepted, Refused 
 use Rattle.stream_rules.specs.declared.Turned.{Turned}
 use Rattle.stream_laws.specs.Sessions.{takenOf, isNoRefusal}
 use Rattle.stream_laws.proofs.Facts.{Facts, top-above}
-use Rattle.stream_laws.proofs.Calls.{call-gives, gives-adds-up, gives-above, gives-short, wants-short, drain-adds-up, drain-above}
+use Rattle.stream_laws.proofs.Calls.{call-gives, call-wants, gives-adds-up, gives-above, gives-short, wants-short, drain-adds-up, drain-above}
 
 -- A count that has wrapped is counted on as if it had not.
 pub wrap-on : (a b : ℕ) → wrap (wrap a + b) ≡ wrap (a + b)
@@ -245,6 +245,26 @@ module _ (r : Reader) (offered : List ℕ) (facts : Facts (head (r .family)) (lo
       (λ p q e. open-onward (call (head (r .family)) (heldOf r) offered) refl x e)
       (λ p q s e. closed-onward (look (atClose (head (r .family))) (heldOf r)) refl x e)
 
+-- No call takes more bytes than it is offered.
+module _ (r : Reader) (offered : List ℕ) (facts : Facts (head (r .family)) (longest (r .family))) where
+  open-within : (c : Call) → call (head (r .family)) (heldOf r) offered ≡ c → takenOf ((openCall r c) .answer) ≤ length offered
+  open-within (gives taken k n f kept) e = call-gives (head (r .family)) (longest (r .family)) facts (heldOf r) offered taken k n f kept e .within
+  open-within (wants taken k kept) e = omega (arith, call-wants (head (r .family)) (longest (r .family)) facts (heldOf r) offered taken k kept e .everything)
+
+  closed-within : (l : Look) → takenOf ((closedCall r l) .answer) ≤ length offered
+  closed-within (ready k n f behind) = omega arith
+  closed-within (waiting k rest) = omega arith
+
+  pub taken-within : (a : Fed) → Feeds r offered a → takenOf (a .answer) ≤ length offered
+  taken-within a e =
+      rw (e .answers)
+      (by-kind r
+      offered
+      (λ b. takenOf (b .answer) ≤ length offered)
+      (λ n. omega arith)
+      (λ p q. open-within (call (head (r .family)) (heldOf r) offered) refl)
+      (λ p q s. closed-within (look (atClose (head (r .family))) (heldOf r))))
+
 -- What they were before has no effect: a reader whose held places are others, but the same as far as they are used,
 -- gives the same answer, and the same state where that is no refusal.
 abbrev pub withHeld : Reader → List ℕ → Reader
@@ -360,3 +380,66 @@ done-stays r offered n =
         → fed ((closedCall r l) .reader) [] ≡ record { reader = (closedCall r l) .reader; answer = Done 0 }
     on-closed p s (ready k m f behind) e = let z : _≡_ {A = ℕ} 0 1 = cc in absurd (omega arith)
     on-closed p s (waiting k rest) e = done-again r p s k
+
+-- A reader of a family that holds no more than it may, open or closed. Calls that offer nothing to a closed one are not refused,
+-- nor is closing, and it stays such a reader.
+pub record Serves (closed : ℕ) (r : Reader) : Type 0 where
+  pub known : isFamily (r .family) ≡ true
+  pub few : r .count ≤ holds (r .family)
+  pub flag : r .closed ≡ closed
+
+pub record Served (closed : ℕ) (a : Fed) : Type 0 where
+  pub fine : isNoRefusal (a .answer) ≡ true
+  pub serves : Serves closed (a .reader)
+
+module _ (r : Reader) (facts : Facts (head (r .family)) (longest (r .family))) where
+  same-line : (offered : List ℕ) → (((fed r offered) .reader .family ≡ r .family) × ((fed r offered) .reader .closed ≡ r .closed))
+  same-line offered =
+      by-kind r
+      offered
+      (λ a. (a .reader .family ≡ r .family) × (a .reader .closed ≡ r .closed))
+      (λ n. (refl, refl))
+      (λ p q. on-open (call (head (r .family)) (heldOf r) offered))
+      (λ p q s. on-closed (look (atClose (head (r .family))) (heldOf r)))
+    where
+      on-open : (c : Call) → (((openCall r c) .reader .family ≡ r .family) × ((openCall r c) .reader .closed ≡ r .closed))
+      on-open (gives taken k n f kept) = (refl, refl)
+      on-open (wants taken k kept) = (refl, refl)
+
+      on-closed : (l : Look) → (((closedCall r l) .reader .family ≡ r .family) × ((closedCall r l) .reader .closed ≡ r .closed))
+      on-closed (ready k n f behind) = (refl, refl)
+      on-closed (waiting k rest) = (refl, refl)
+
+  stays-so : {closed : ℕ} (offered : List ℕ) → Serves closed r → isNoRefusal ((fed r offered) .answer) ≡ true → Served closed (fed r offered)
+  stays-so offered s fine =
+      let line = same-line offered in
+      record {
+        fine = fine;
+        serves = record {
+          known = ap isFamily (line .0) ∙ s .known;
+          few = state-fits r offered facts fine .count;
+          flag = line .1 ∙ s .flag;
+        };
+      }
+
+  pub served-open : (offered : List ℕ) → Serves 0 r → Served 0 (fed r offered)
+  served-open offered s =
+      stays-so offered s
+      (ap (λ (a : Fed). isNoRefusal (a .answer)) (open-call r offered (s .known) (s .few) (s .flag))
+      ∙ open-no-refusal r (call (head (r .family)) (heldOf r) offered))
+
+  pub served-closed : Serves 1 r → Served 1 (fed r [])
+  served-closed s =
+      stays-so [] s
+      (ap (λ (a : Fed). isNoRefusal (a .answer)) (closed-call r (s .known) (s .few) (λ e. let z : _≡_ {A = ℕ} 1 0 = sym (s .flag) ∙ e in omega (arith, z)))
+      ∙ closed-no-refusal r (look (atClose (head (r .family))) (heldOf r)))
+
+  pub served-shut : {closed : ℕ} → Serves closed r → ((shut r) .outcome ≡ Accepted) × Serves 1 ((shut r) .reader)
+  served-shut s =
+      let e = shut-call r (s .known) (s .few) in
+      (ap (λ (t : Turned). t .outcome) e, rw e (record { known = s .known; few = omega (arith, s .few, length-take (r .count) (r .held)); flag = refl }))
+
+pub served-fresh : (family : ℕ) → isFamily family ≡ true → ((fresh family) .outcome ≡ Accepted) × Serves 0 ((fresh family) .reader)
+served-fresh family known =
+    let e = fresh-call family known in
+    (ap (λ (t : Turned). t .outcome) e, rw e (record { known = known; few = omega arith; flag = refl }))

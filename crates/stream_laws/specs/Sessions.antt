@@ -3,12 +3,12 @@
 use Prim.Native.Nat.{ℕ, _+_, _≤_}
 use mathlib.Core.Path.{_≡_}
 use mathlib.Core.Bool.{Bool, true, false}
-use mathlib.Core.List.{List, [], _∷_, map}
+use mathlib.Core.List.{List, [], _∷_, _++_, map}
 use lib.ListN.{length, take, drop}
 use Rattle.rules.specs.Bytes.{every}
 use Rattle.stream_rules.specs.Heads.{longest}
 use Rattle.stream_rules.specs.Rule.{Found}
-use Rattle.stream_rules.specs.Streams.{wrap, fed, shut}
+use Rattle.stream_rules.specs.Streams.{wrap, Feeds, Shuts}
 use Rattle.stream_rules.specs.Lister.{frames}
 use Rattle.stream_rules.specs.declared.Reader.{Reader}
 use Rattle.stream_rules.specs.declared.Answer.{Answer}
@@ -26,18 +26,35 @@ takenOf (Refused n) = 0
 -- After the close: calls that offer nothing, at least until the answer is done, with their answers in order. Closing
 -- again and calling on, when it is done, are allowed.
 pub data Draining : Reader → List Answer → Type 0 where
-  calls : {r : Reader} {answers : List Answer} (a : Fed) → a ≡ fed r [] → Draining (a .reader) answers → Draining r (a .answer ∷ answers)
-  closes-again : {r : Reader} {answers : List Answer} (t : Turned) → t ≡ shut r → Draining (t .reader) answers → Draining r answers
-  ends : {r : Reader} (a : Fed) (n : ℕ) → a ≡ fed r [] → a .answer ≡ Done n → Draining r (a .answer ∷ [])
+  calls : {r : Reader} {answers : List Answer} (a : Fed) → Feeds r [] a → Draining (a .reader) answers → Draining r (a .answer ∷ answers)
+  closes-again : {r : Reader} {answers : List Answer} (t : Turned) → Shuts r t → Draining (t .reader) answers → Draining r answers
+  ends : {r : Reader} (a : Fed) (n : ℕ) → Feeds r [] a → a .answer ≡ Done n → Draining r (a .answer ∷ [])
 
 -- From a reader and what is left of the stream: calls, each of which offers a number of bytes of what is left, or all of
 -- them if there are fewer, and whatever it did not take is left; then, when nothing is left, the close. The lists are
 -- the numbers offered and the answers of all calls, in order.
 pub data Session : Reader → List ℕ → List ℕ → List Answer → Type 0 where
-  calls : {r : Reader} {left lengths : List ℕ} {answers : List Answer} (n : ℕ) (a : Fed) → a ≡ fed r (take n left)
+  calls : {r : Reader} {left lengths : List ℕ} {answers : List Answer} (n : ℕ) (a : Fed) → Feeds r (take n left) a
       → Session (a .reader) (drop (takenOf (a .answer)) left) lengths answers
       → Session r left (n ∷ lengths) (a .answer ∷ answers)
-  closes : {r : Reader} {answers : List Answer} (t : Turned) → t ≡ shut r → Draining (t .reader) answers → Session r [] [] answers
+  closes : {r : Reader} {answers : List Answer} (t : Turned) → Shuts r t → Draining (t .reader) answers → Session r [] [] answers
+
+-- A session that follows a cut of the stream: its pieces in order, each offered until all of it is taken; then the close. Of
+-- no pieces it is the close at once.
+abbrev pub toOffer : List ℕ → List (List ℕ) → List (List ℕ)
+toOffer [] pieces = pieces
+toOffer (b ∷ rest) pieces = (b ∷ rest) ∷ pieces
+
+pub data Following : Reader → List (List ℕ) → List Answer → Type 0 where
+  calls : {r : Reader} {pieces : List (List ℕ)} {answers : List Answer} (piece : List ℕ) (a : Fed) → Feeds r piece a
+      → Following (a .reader) (toOffer (drop (takenOf (a .answer)) piece) pieces) answers
+      → Following r (piece ∷ pieces) (a .answer ∷ answers)
+  closes : {r : Reader} {answers : List Answer} (t : Turned) → Shuts r t → Draining (t .reader) answers → Following r [] answers
+
+-- the stream that is cut
+abbrev pub joined : List (List ℕ) → List ℕ
+joined [] = []
+joined (piece ∷ pieces) = piece ++ joined pieces
 
 -- the frames that the answers hand out, with their start, the bytes skipped before them, and their length
 abbrev pub handed : List Answer → List Found

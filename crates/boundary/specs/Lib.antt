@@ -1,0 +1,2 @@
+-- A C program's session, and what it is promised of it.
+pub mod RowSessions
