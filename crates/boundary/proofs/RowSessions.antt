@@ -1,40 +1,37 @@
 -- Demand 3 for a C program: with room for every row, a session over the functions at the boundary is one over the stream reader's,
 -- no function gives a number but 0, and each row is that of its call's answer. And such sessions there are.
 -- Assumes nothing.
-use Prim.Native.Nat.{ℕ, _+_, _%_, _^_, _≤_, _<_}
+use Prim.Native.Nat.{ℕ, _≤_, _<_}
 use mathlib.Core.Path.{_≡_, refl, sym, ap, subst, _∙_}
-use mathlib.Core.Bool.{Bool, true, false, cond, false≢true}
-use mathlib.Core.List.{List, [], _∷_, _++_}
+use mathlib.Core.Bool.{true, false, cond, false≢true}
+use mathlib.Core.List.{List, [], _∷_}
 use native.Mathlib.Nat.{mod-eq-of-lt}
 use native.Mathlib.Omega.{arith}
-use borrow.Author.Tests.{eq-eqb}
+use borrow.Author.Tests.{eq-eqb, eqb-false}
 use lib.Dec.{eqb, lit≤}
 use lib.IntN.{ℤ, pos, natAbs}
-use lib.ListN.{length, take, drop, getD, replicate, length-replicate, length-take, length-drop}
+use lib.ListN.{length, take, drop, replicate, length-replicate, length-take, length-drop}
 use lib.Seq.{take-append-seam}
 use Rattle.rules.specs.Answers.{isFamily, kindOf}
-use Rattle.rules.specs.declared.Kind.{Kind}
-use Rattle.rules.specs.declared.Kind.the-variants.{OfAck, OfStatus, OfCommand, OfSentence, OfQuestion, OfResponse, OfLetters}
 use Rattle.frame_laws.proofs.Bytes.{every-cons}
 use Rattle.rules.specs.Bytes.{every}
-use Rattle.stream_rules.specs.Streams.{Feeds, Shuts, Makes, fed, shut, fresh, saidToFeed, saidToTurn}
+use Rattle.stream_rules.specs.Streams.{fed, shut, fresh, saidToFeed, saidToTurn}
 use Rattle.stream_rules.specs.declared.Reader.{Reader}
 use Rattle.stream_rules.specs.declared.Answer.{Answer}
 use Rattle.stream_rules.specs.declared.Answer.the-variants.{Ready, More, Done, Refused}
 use Rattle.stream_rules.specs.declared.Fed.{Fed}
 use Rattle.stream_rules.specs.declared.Outcome.{Outcome}
-use Rattle.stream_rules.specs.declared.Outcome.the-variants.{Accepted}
 use Rattle.stream_rules.specs.declared.Turned.{Turned}
 use Rattle.stream_laws.specs.Sessions.{Draining, Session, joined, takenOf, isNoRefusal}
 use Rattle.stream_laws.proofs.Families.{facts}
 use Rattle.stream_laws.proofs.Saying.{feeds, shuts, makes}
-use Rattle.stream_laws.proofs.States.{Serves, Served, served-open, served-closed, served-shut, served-fresh, taken-within}
+use Rattle.stream_laws.proofs.States.{Serves, served-open, served-closed, served-shut, served-fresh, taken-within}
 use Rattle.stream_laws.proofs.Sessions.{demand3}
 use Rattle.stream_laws.proofs.Possible.{possible, followed}
-use Rattle.rows.specs.Rows.{longestRow, doneRow, kindRow, rowFed, front, refusalOf, Lays, laidNumber, laidContent}
+use Rattle.rows.specs.Rows.{longestRow, doneRow, kindRow, rowFed, front, refusalOf, laidNumber, laidContent}
 use Rattle.rows.proofs.Lengths.{row-fits, room}
-use Rattle.row_stream.specs.FedRows.{FeedsRow}
 use Rattle.amp.specs.Boundary.{Freshens, Closes}
+use Rattle.boundary.proofs.Apart.{of-frame}
 use Rattle.boundary.specs.RowSessions.{kindIn, takenIn, mostLent, Call, RowDraining, RowSession, RowsOf, RowDemand3}
 
 -- what a row that stands at the front shows
@@ -43,12 +40,12 @@ unfolding front
 at-front r numbers = take-append-seam r (drop (length r) numbers)
 
 -- What a program has of a call that is not refused.
-record Had (r : Reader) (offered : List ℕ) (a : Answer) (number : ℕ) (after : Reader) (row : List ℤ) : Type 0 where
-  zero : number ≡ 0
-  left : after ≡ fed r offered .reader
-  shown : take (length (rowFed a)) row ≡ rowFed a
-  taken : takenIn row ≡ takenOf a
-  kind : kindIn row ≡ kindIn (rowFed a)
+pub record Had (r : Reader) (offered : List ℕ) (a : Answer) (number : ℕ) (after : Reader) (row : List ℤ) : Type 0 where
+  pub zero : number ≡ 0
+  pub left : after ≡ fed r offered .reader
+  pub shown : take (length (rowFed a)) row ≡ rowFed a
+  pub taken : takenIn row ≡ takenOf a
+  pub kind : kindIn row ≡ kindIn (rowFed a)
 
 module _ {r : Reader} {offered : List ℕ} {number : ℕ} {after : Reader} {row : List ℤ} (c : Call r offered number after row) where
   -- from a row that has room and says how many bytes were taken
@@ -65,10 +62,10 @@ module _ {r : Reader} {offered : List ℕ} {number : ℕ} {after : Reader} {row 
         kind = ap kindIn content ∙ first;
       }
 
-  few : takenOf (fed r offered .answer) < mostLent
+  pub few : takenOf (fed r offered .answer) < mostLent
   few = omega (arith, c .lent, taken-within r offered (facts (r .family)) (fed r offered) (feeds refl))
 
-  had : (a : Answer) → fed r offered .answer ≡ a → isNoRefusal a ≡ true → Had r offered a number after row
+  pub had : (a : Answer) → fed r offered .answer ≡ a → isNoRefusal a ≡ true → Had r offered a number after row
   unfolding front
   had (Ready x) e fine =
       let short = row-fits (x .taken) (x .start) (x .skipped) (x .length) (x .frame) in
@@ -90,17 +87,8 @@ zeros : (number : ℕ) (numbers : List ℕ) → number ≡ 0 → every (eqb 0) n
 zeros number numbers e rest = every-cons (eqb 0) number numbers (eq-eqb 0 number (sym e)) rest
 
 -- only the row of done says so
-not-done : (k : Kind) → kindRow k ≡ doneRow → ⊥
-not-done (OfAck c) e = omega (arith, e)
-not-done OfStatus e = omega (arith, e)
-not-done (OfCommand c) e = omega (arith, e)
-not-done (OfSentence n) e = omega (arith, e)
-not-done (OfQuestion letters) e = omega (arith, e)
-not-done (OfResponse letters) e = omega (arith, e)
-not-done (OfLetters w) e = omega (arith, e)
-
 is-done : (a : Answer) → kindIn (rowFed a) ≡ pos doneRow → (n : ℕ) × (a ≡ Done n)
-is-done (Ready x) e = absurd (not-done (kindOf (x .frame)) (ap natAbs e))
+is-done (Ready x) e = absurd (eqb-false (kindRow (kindOf (x .frame))) doneRow (of-frame (kindOf (x .frame)) .1) (ap natAbs e))
 is-done (More n) e = absurd (omega (arith, ap natAbs e))
 is-done (Done n) e = (n, refl)
 is-done (Refused n) e = absurd (omega (arith, ap natAbs e))

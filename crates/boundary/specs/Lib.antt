@@ -1,2 +1,3 @@
--- A C program's session, and what it is promised of it.
+-- Demands 2 and 3 over the functions that a C program calls.
 pub mod RowSessions
+pub mod Passed

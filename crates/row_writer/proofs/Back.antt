@@ -1,15 +1,16 @@
--- A frame that may be written is given by its own kind, code and values: what was read can be written again from its
--- numbers. Each value fits its field by the rules of the record. Assumes nothing.
+-- A frame that may be written is given by its own kind, code and values, whatever stands behind them: a row that was read and
+-- is passed on whole is written as its record is. Each value fits its field by the rules of the record. Assumes nothing.
 use Prim.Native.Nat.{ℕ, zero, suc, _^_, _≤_}
-use mathlib.Core.Path.{_≡_, refl, ap, ap₂}
+use mathlib.Core.Path.{_≡_, refl, ap, ap₂, subst}
 use mathlib.Core.Bool.{Bool, true, false, cond, and-eq-true-iff, false≢true}
-use mathlib.Core.List.{List, [], _∷_, map}
+use mathlib.Core.List.{List, [], _∷_, _++_, map}
 use native.Mathlib.Nat.{pow-le-pow-right}
 use native.Mathlib.Omega.{arith}
-use borrow.Author.Tests.{leb-true, ltb-true, le-leb}
-use lib.Dec.{eqb, leb}
+use borrow.Author.Tests.{leb-true, ltb-true, lt-ltb, le-leb}
+use lib.Dec.{eqb, leb, ltb}
 use lib.IntN.{ℤ, pos, negsuc, natAbs}
-use lib.ListN.{getD}
+use lib.ListN.{length, take, getD, length-append, length-map}
+use lib.Seq.{take-append-seam}
 use Rattle.rules.specs.Bytes.{ascii, oneOf, every}
 use Rattle.rules.specs.Status.{by, fieldsInRange, statusInRange, warnings, alarms}
 use Rattle.rules.specs.Sentences.{fit, numbers02, inRange02, numbers03, inRange03, inRange05}
@@ -34,7 +35,7 @@ use Rattle.rows.specs.Rows.{kindRow, codeOf}
 use Rattle.row_writer.specs.declared.given.Given.the-variants.{AFrame}
 use Rattle.row_writer.specs.Given.{atMost, aTemperature, numberUpTo, temperatureOf, valueAt, byteLimit, wordLimit, isStatusRow, isRowOf, isRow03, statusFrom, from02, from03, from05, clockFrom, sentenceGiven, behindGiven, responseGiven, frameGiven}
 
--- Numbers up to a limit, as values: they pass the test, and each is kept.
+-- Numbers up to a limit, as the first of some values: they pass the test, and each is kept.
 abbrev Each : ℕ → List ℕ → Type 0
 Each limit [] = Unit
 Each limit (n ∷ ns) = (n ≤ limit) × Each limit ns
@@ -45,10 +46,21 @@ module _ (limit : ℕ) where
   pass [] h = refl
   pass (n ∷ ns) h = both-pass (leb n limit) (every (atMost limit) (map pos ns)) (le-leb n limit (h .0)) (pass ns (h .1))
 
-  kept : (ns : List ℕ) → Each limit ns → (i : ℕ) → numberUpTo limit (valueAt (map pos ns) i) ≡ getD ns i 0
-  kept [] h i = rw (le-leb 0 limit (omega arith))
-  kept (n ∷ ns) h zero = rw (le-leb n limit (h .0))
-  kept (n ∷ ns) h (suc i) = kept ns (h .1) i
+  kept : (ns : List ℕ) → Each limit ns → (rest : List ℤ) (i : ℕ) → ltb i (length ns) ≡ true → numberUpTo limit (valueAt (map pos ns ++ rest) i) ≡ getD ns i 0
+  kept [] h rest i e = absurd (omega (arith, ltb-true i 0 e))
+  kept (n ∷ ns) h rest zero e = rw (le-leb n limit (h .0))
+  kept (n ∷ ns) h rest (suc i) e = kept ns (h .1) rest i (lt-ltb i (length ns) (omega (arith, ltb-true (suc i) (length (n ∷ ns)) e)))
+
+  row-of : (ns : List ℕ) → Each limit ns → (rest : List ℤ) → isRowOf (length ns) limit (map pos ns ++ rest) ≡ true
+  unfolding isRowOf
+  row-of ns h rest =
+      both-pass _ _
+      (le-leb (length ns) (length (map pos ns ++ rest)) (omega (arith, length-append (map pos ns) rest, length-map ns pos)))
+      (subst (λ (n : ℕ). every (atMost limit) (take n (map pos ns ++ rest)) ≡ true) (length-map ns pos) (rw (take-append-seam (map pos ns) rest) (pass ns h)))
+
+-- so many values are long enough, whatever stands behind them
+long : (vs rest : List ℤ) → leb (length vs) (length (vs ++ rest)) ≡ true
+long vs rest = le-leb (length vs) (length (vs ++ rest)) (omega (arith, length-append vs rest))
 
 abbrev Words : List ℕ → Type 0
 Words ns = Each 0xFFFFFFFF ns
@@ -57,36 +69,36 @@ abbrev AllBytes : List ℕ → Type 0
 AllBytes ns = Each 255 ns
 
 -- Sentence 02.
-module _ (r : Sentence02) (e : inRange02 r ≡ true) where
+module _ (r : Sentence02) (e : inRange02 r ≡ true) (rest : List ℤ) where
   words02 : Words (numbers02 r)
   unfolding inRange02 fit numbers02
   words02 = let h = simp and-eq-true-iff at e in omega (arith, ltb-true)
 
-  row02 : isRowOf 13 wordLimit (values (Apa02 r)) ≡ true
-  unfolding isRowOf numbers02
-  row02 = pass 0xFFFFFFFF (numbers02 r) words02
+  row02 : isRowOf 13 wordLimit (values (Apa02 r) ++ rest) ≡ true
+  unfolding numbers02
+  row02 = row-of 0xFFFFFFFF (numbers02 r) words02 rest
 
-  record02 : from02 (values (Apa02 r)) ≡ r
+  record02 : from02 (values (Apa02 r) ++ rest) ≡ r
   unfolding from02 numbers02
   record02 =
-      let k = kept 0xFFFFFFFF (numbers02 r) words02 in
+      let k = kept 0xFFFFFFFF (numbers02 r) words02 rest in
       λ i. record {
-        pfwd = k 0 i;
-        swr = k 1 i;
-        pin = k 2 i;
-        vp = k 3 i;
-        ip = k 4 i;
-        gain = k 5 i;
-        vg = k 6 i;
-        ig = k 7 i;
-        band = k 8 i;
-        state = k 9 i;
-        fault = k 10 i;
-        key = k 11 i;
-        pep = k 12 i;
+        pfwd = k 0 refl i;
+        swr = k 1 refl i;
+        pin = k 2 refl i;
+        vp = k 3 refl i;
+        ip = k 4 refl i;
+        gain = k 5 refl i;
+        vg = k 6 refl i;
+        ig = k 7 refl i;
+        band = k 8 refl i;
+        state = k 9 refl i;
+        fault = k 10 refl i;
+        key = k 11 refl i;
+        pep = k 12 refl i;
       }
 
-  back02 : frameGiven 4 2 (values (Apa02 r)) ≡ AFrame (Apa02 r)
+  back02 : frameGiven 4 2 (values (Apa02 r) ++ rest) ≡ AFrame (Apa02 r)
   unfolding frameGiven sentenceGiven
   back02 = rw row02 (ap (λ x. AFrame (Apa02 x)) record02)
 
@@ -95,7 +107,7 @@ small-temperature : (z : ℤ) → natAbs z ≤ 9999 → aTemperature z ≡ true
 small-temperature (pos n) h = le-leb n 0x7FFFFFFF (omega arith)
 small-temperature (negsuc n) h = le-leb n 0x7FFFFFFF (omega arith)
 
-module _ (r : Sentence03) (e : inRange03 r ≡ true) where
+module _ (r : Sentence03) (e : inRange03 r ≡ true) (rest : List ℤ) where
   words03 : Words (numbers03 r)
   unfolding inRange03 fit numbers03
   words03 = let h = simp and-eq-true-iff at e in omega (arith, ltb-true)
@@ -104,60 +116,59 @@ module _ (r : Sentence03) (e : inRange03 r ≡ true) where
   unfolding inRange03
   temperature03 = small-temperature (r .temp) (search (tests, leb-true))
 
-  row03 : isRow03 (values (Apa03 r)) ≡ true
+  row03 : isRow03 (values (Apa03 r) ++ rest) ≡ true
   unfolding isRow03 numbers03
-  row03 = both-pass _ _ (pass 0xFFFFFFFF (numbers03 r) words03) temperature03
+  row03 = both-pass _ _ (both-pass _ _ (long (values (Apa03 r)) rest) (pass 0xFFFFFFFF (numbers03 r) words03)) temperature03
 
-  record03 : from03 (values (Apa03 r)) ≡ r
+  record03 : from03 (values (Apa03 r) ++ rest) ≡ r
   unfolding from03 numbers03
   record03 =
-      let k = kept 0xFFFFFFFF (numbers03 r) words03 in
+      let k = kept 0xFFFFFFFF (numbers03 r) words03 rest in
       let temp : temperatureOf (r .temp) ≡ r .temp = rw temperature03 in
       λ i. record {
-        v5 = k 0 i;
-        v12 = k 1 i;
-        v24 = k 2 i;
-        m12 = k 3 i;
-        v40 = k 4 i;
-        acline = k 5 i;
-        mbstatus = k 6 i;
-        mbtap = k 7 i;
+        v5 = k 0 refl i;
+        v12 = k 1 refl i;
+        v24 = k 2 refl i;
+        m12 = k 3 refl i;
+        v40 = k 4 refl i;
+        acline = k 5 refl i;
+        mbstatus = k 6 refl i;
+        mbtap = k 7 refl i;
         temp = temp i;
       }
 
-  back03 : frameGiven 4 3 (values (Apa03 r)) ≡ AFrame (Apa03 r)
+  back03 : frameGiven 4 3 (values (Apa03 r) ++ rest) ≡ AFrame (Apa03 r)
   unfolding frameGiven sentenceGiven
   back03 = rw row03 (ap (λ x. AFrame (Apa03 x)) record03)
 
 -- Sentence 05.
-module _ (r : Sentence05) (e : inRange05 r ≡ true) where
+module _ (r : Sentence05) (e : inRange05 r ≡ true) (rest : List ℤ) where
   bytes05 : AllBytes (numbers05 r)
   unfolding inRange05
   bytes05 = let h = simp and-eq-true-iff at e in omega (arith, leb-true)
 
-  row05 : isRowOf 11 byteLimit (values (Apa05 r)) ≡ true
-  unfolding isRowOf
-  row05 = pass 255 (numbers05 r) bytes05
+  row05 : isRowOf 11 byteLimit (values (Apa05 r) ++ rest) ≡ true
+  row05 = row-of 255 (numbers05 r) bytes05 rest
 
-  record05 : from05 (values (Apa05 r)) ≡ r
+  record05 : from05 (values (Apa05 r) ++ rest) ≡ r
   unfolding from05
   record05 =
-      let k = kept 255 (numbers05 r) bytes05 in
+      let k = kept 255 (numbers05 r) bytes05 rest in
       λ i. record {
-        band = k 0 i;
-        segment = k 1 i;
-        memory = k 2 i;
-        antenna = k 3 i;
-        meter = k 4 i;
-        control = k 5 i;
-        options = k 6 i;
-        state = k 7 i;
-        wtime = k 8 i;
-        tcmd = k 9 i;
-        lcmd = k 10 i;
+        band = k 0 refl i;
+        segment = k 1 refl i;
+        memory = k 2 refl i;
+        antenna = k 3 refl i;
+        meter = k 4 refl i;
+        control = k 5 refl i;
+        options = k 6 refl i;
+        state = k 7 refl i;
+        wtime = k 8 refl i;
+        tcmd = k 9 refl i;
+        lcmd = k 10 refl i;
       }
 
-  back05 : frameGiven 4 5 (values (Apa05 r)) ≡ AFrame (Apa05 r)
+  back05 : frameGiven 4 5 (values (Apa05 r) ++ rest) ≡ AFrame (Apa05 r)
   unfolding frameGiven sentenceGiven
   back05 = rw row05 (ap (λ x. AFrame (Apa05 x)) record05)
 
@@ -179,7 +190,7 @@ readings s = s .watts ∷ s .swratu ∷ s .swrant ∷ s .volts ∷ s .amperes �
 abbrev signs : StatusType.Status → List ℕ
 signs s = s .warning ∷ s .alarm ∷ s .comma ∷ []
 
-module _ (s : StatusType.Status) (e : statusInRange s ≡ true) where
+module _ (s : StatusType.Status) (e : statusInRange s ≡ true) (rest : List ℤ) where
   settings-bytes : AllBytes (settings s)
   unfolding statusInRange fieldsInRange every
   settings-bytes =
@@ -202,44 +213,46 @@ module _ (s : StatusType.Status) (e : statusInRange s ≡ true) where
       let alarm = letter alarms (s .alarm) refl (search tests depth 25) in
       omega arith
 
-  status-row : isStatusRow (values (Status s)) ≡ true
+  status-row : isStatusRow (values (Status s) ++ rest) ≡ true
   unfolding isStatusRow
   status-row =
       both-pass _ _
-      (both-pass _ _ (pass 255 (settings s) settings-bytes) (pass 0xFFFFFFFF (readings s) readings-words))
+      (both-pass _ _
+      (both-pass _ _ (long (values (Status s)) rest) (pass 255 (settings s) settings-bytes))
+      (pass 0xFFFFFFFF (readings s) readings-words))
       (pass 255 (signs s) signs-bytes)
 
-  status-record : statusFrom (values (Status s)) ≡ s
+  status-record : statusFrom (values (Status s) ++ rest) ≡ s
   unfolding statusFrom
   status-record =
-      let a = kept 255 (settings s) settings-bytes in
-      let b = kept 0xFFFFFFFF (readings s) readings-words in
-      let c = kept 255 (signs s) signs-bytes in
+      let a = kept 255 (settings s) settings-bytes rest in
+      let b = kept 0xFFFFFFFF (readings s) readings-words rest in
+      let c = kept 255 (signs s) signs-bytes rest in
       λ i. record {
-        id = a 0 i;
-        state = a 1 i;
-        direction = a 2 i;
-        bank = a 3 i;
-        input = a 4 i;
-        band = a 5 i;
-        transmit = a 6 i;
-        tuner = a 7 i;
-        receive = a 8 i;
-        level = a 9 i;
-        watts = b 0 i;
-        swratu = b 1 i;
-        swrant = b 2 i;
-        volts = b 3 i;
-        amperes = b 4 i;
-        upper = b 5 i;
-        lower = b 6 i;
-        combiner = b 7 i;
-        warning = c 0 i;
-        alarm = c 1 i;
-        comma = c 2 i;
+        id = a 0 refl i;
+        state = a 1 refl i;
+        direction = a 2 refl i;
+        bank = a 3 refl i;
+        input = a 4 refl i;
+        band = a 5 refl i;
+        transmit = a 6 refl i;
+        tuner = a 7 refl i;
+        receive = a 8 refl i;
+        level = a 9 refl i;
+        watts = b 0 refl i;
+        swratu = b 1 refl i;
+        swrant = b 2 refl i;
+        volts = b 3 refl i;
+        amperes = b 4 refl i;
+        upper = b 5 refl i;
+        lower = b 6 refl i;
+        combiner = b 7 refl i;
+        warning = c 0 refl i;
+        alarm = c 1 refl i;
+        comma = c 2 refl i;
       }
 
-  back-status : frameGiven 2 0 (values (Status s)) ≡ AFrame (Status s)
+  back-status : frameGiven 2 0 (values (Status s) ++ rest) ≡ AFrame (Status s)
   unfolding frameGiven
   back-status = rw status-row (ap (λ x. AFrame (Status x)) status-record)
 
@@ -250,65 +263,68 @@ number-word letters n width limit is e =
     let most : 10 ^ width ≤ 10 ^ 5 = pow-le-pow-right (omega arith) (fits .1) in
     (omega (arith, fits .2, leb-true n limit e), tt)
 
-back-number : (letters n : ℕ) → isUpTo (behind letters) n ≡ true → frameGiven 8 letters (pos n ∷ []) ≡ AFrame (MessageOf (Number letters n))
-unfolding frameGiven responseGiven isRowOf
-back-number letters n e = by-behind (behind letters) refl e
-  where
-    by-behind : (b : Behind) → behind letters ≡ b → isUpTo b n ≡ true → behindGiven b letters (pos n ∷ []) ≡ AFrame (MessageOf (Number letters n))
-    by-behind (ANumber width limit) is up =
-        let w = number-word letters n width limit is up in
-        rw (pass wordLimit (n ∷ []) w) (ap (λ x. AFrame (MessageOf (Number letters x))) (kept wordLimit (n ∷ []) w 0))
-    by-behind AVersion is up = absurd (false≢true up)
-    by-behind AClock is up = absurd (false≢true up)
-    by-behind Alone is up = absurd (false≢true up)
-    by-behind Anything is up = absurd (false≢true up)
+module _ (rest : List ℤ) where
+  back-number : (letters n : ℕ) → isUpTo (behind letters) n ≡ true → frameGiven 8 letters (pos n ∷ rest) ≡ AFrame (MessageOf (Number letters n))
+  unfolding frameGiven responseGiven
+  back-number letters n e = by-behind (behind letters) refl e
+    where
+      by-behind : (b : Behind) → behind letters ≡ b → isUpTo b n ≡ true → behindGiven b letters (pos n ∷ rest) ≡ AFrame (MessageOf (Number letters n))
+      by-behind (ANumber width limit) is up =
+          let w = number-word letters n width limit is up in
+          rw (row-of wordLimit (n ∷ []) w rest) (ap (λ x. AFrame (MessageOf (Number letters x))) (kept wordLimit (n ∷ []) w rest 0 refl))
+      by-behind AVersion is up = absurd (false≢true up)
+      by-behind AClock is up = absurd (false≢true up)
+      by-behind Alone is up = absurd (false≢true up)
+      by-behind Anything is up = absurd (false≢true up)
 
-back-version : (a b : ℕ) → messageInRange (Version a b) ≡ true → frameGiven 8 (word (ascii "RV")) (pos a ∷ pos b ∷ []) ≡ AFrame (MessageOf (Version a b))
-unfolding messageInRange frameGiven responseGiven isRowOf behind oneOf wordFrom
-back-version a b e =
-    let h = simp and-eq-true-iff at e in
-    let pairs : AllBytes (a ∷ b ∷ []) = omega (arith, leb-true) in
-    let k = kept byteLimit (a ∷ b ∷ []) pairs in
-    rw (pass byteLimit (a ∷ b ∷ []) pairs) (ap₂ (λ x y. AFrame (MessageOf (Version x y))) (k 0) (k 1))
+  back-version : (a b : ℕ) → messageInRange (Version a b) ≡ true
+      → frameGiven 8 (word (ascii "RV")) (pos a ∷ pos b ∷ rest) ≡ AFrame (MessageOf (Version a b))
+  unfolding messageInRange frameGiven responseGiven behind oneOf wordFrom
+  back-version a b e =
+      let h = simp and-eq-true-iff at e in
+      let pairs : AllBytes (a ∷ b ∷ []) = omega (arith, leb-true) in
+      let k = kept byteLimit (a ∷ b ∷ []) pairs rest in
+      rw (row-of byteLimit (a ∷ b ∷ []) pairs rest) (ap₂ (λ x y. AFrame (MessageOf (Version x y))) (k 0 refl) (k 1 refl))
 
-module _ (t : ClockType.Clock) (e : clockInRange t ≡ true) where
+module _ (t : ClockType.Clock) (e : clockInRange t ≡ true) (rest : List ℤ) where
   clock-bytes : AllBytes (clockNumbers t)
   unfolding clockInRange
   clock-bytes = let h = simp and-eq-true-iff at e in omega (arith, leb-true, days-31 (t .year) (t .month))
 
-  clock-record : clockFrom (map pos (clockNumbers t)) ≡ t
+  clock-record : clockFrom (map pos (clockNumbers t) ++ rest) ≡ t
   unfolding clockFrom
   clock-record =
-      let k = kept byteLimit (clockNumbers t) clock-bytes in
+      let k = kept byteLimit (clockNumbers t) clock-bytes rest in
       λ i. record {
-        year = k 0 i;
-        month = k 1 i;
-        day = k 2 i;
-        hour = k 3 i;
-        minute = k 4 i;
-        second = k 5 i;
+        year = k 0 refl i;
+        month = k 1 refl i;
+        day = k 2 refl i;
+        hour = k 3 refl i;
+        minute = k 4 refl i;
+        second = k 5 refl i;
       }
 
-  back-clock : frameGiven 8 (word (ascii "CC")) (map pos (clockNumbers t)) ≡ AFrame (MessageOf (Clock t))
-  unfolding frameGiven responseGiven isRowOf behind oneOf wordFrom
-  back-clock = rw (pass byteLimit (clockNumbers t) clock-bytes) (ap (λ x. AFrame (MessageOf (Clock x))) clock-record)
+  back-clock : frameGiven 8 (word (ascii "CC")) (map pos (clockNumbers t) ++ rest) ≡ AFrame (MessageOf (Clock t))
+  unfolding frameGiven responseGiven behind oneOf wordFrom
+  back-clock = rw (row-of byteLimit (clockNumbers t) clock-bytes rest) (ap (λ x. AFrame (MessageOf (Clock x))) clock-record)
 
-back-message : (m : Message) → messageInRange m ≡ true → frameGiven (kindRow (messageKind m)) (codeOf (messageKind m)) (map pos (messageNumbers m)) ≡ AFrame (MessageOf m)
+back-message : (m : Message) → messageInRange m ≡ true → (rest : List ℤ)
+    → frameGiven (kindRow (messageKind m)) (codeOf (messageKind m)) (map pos (messageNumbers m) ++ rest) ≡ AFrame (MessageOf m)
 unfolding messageInRange frameGiven responseGiven behind oneOf wordFrom
-back-message (Question letters) e = refl
-back-message (Number letters n) e = back-number letters n e
-back-message (Version a b) e = back-version a b e
-back-message (Clock t) e = back-clock t e
-back-message Tune e = refl
-back-message (OtherLetters w) e = absurd (false≢true e)
+back-message (Question letters) e rest = refl
+back-message (Number letters n) e rest = back-number rest letters n e
+back-message (Version a b) e rest = back-version rest a b e
+back-message (Clock t) e rest = back-clock t e rest
+back-message Tune e rest = refl
+back-message (OtherLetters w) e rest = absurd (false≢true e)
 
-pub given-back : (f : Frame) → allowed f ≡ true → frameGiven (kindRow (kindOf f)) (codeOf (kindOf f)) (values f) ≡ AFrame f
+pub given-back : (f : Frame) → allowed f ≡ true → (rest : List ℤ) → frameGiven (kindRow (kindOf f)) (codeOf (kindOf f)) (values f ++ rest) ≡ AFrame f
 unfolding allowed frameGiven
-given-back (Ack c) e = refl
-given-back (Status s) e = back-status s e
-given-back (Command c) e = refl
-given-back (Apa02 r) e = back02 r e
-given-back (Apa03 r) e = back03 r e
-given-back (Apa05 r) e = back05 r e
-given-back (Other n) e = absurd (false≢true e)
-given-back (MessageOf m) e = back-message m e
+given-back (Ack c) e rest = refl
+given-back (Status s) e rest = back-status s e rest
+given-back (Command c) e rest = refl
+given-back (Apa02 r) e rest = back02 r e rest
+given-back (Apa03 r) e rest = back03 r e rest
+given-back (Apa05 r) e rest = back05 r e rest
+given-back (Other n) e rest = absurd (false≢true e)
+given-back (MessageOf m) e rest = back-message m e rest
