@@ -1,7 +1,7 @@
 /* What a C program needs of libamp.a: reading and writing the serial frames of SPE amplifiers, of the
- * Alpha 9500 and of the KPA1500. Every function is proved; crates/amp has the statements. What each gives back and leaves
- * stands in crates/amp/specs/Boundary.antt; of amp_feed in crates/row_stream/specs/FedRows.antt, of the
- * writers in crates/row_writer/specs/Given.antt.
+ * Alpha 9500 and of the KPA1500. Every function is proved; crates/amp has the statements. What each gives
+ * back and leaves stands in crates/amp/specs/Boundary.antt; of amp_feed in
+ * crates/row_stream/specs/FedRows.antt, of the writers in crates/row_writer/specs/Given.antt.
  *
  * Families: 1 SPE amplifier to host, 2 Alpha 9500, 3 host to SPE amplifier, 4 KPA1500 (both ways).
  *
@@ -11,8 +11,8 @@
  *
  * What is asked of the caller is what C alone can know: every pointer is aligned and not null, also
  * where its length is 0; it points to as much memory as its type or its length says; and what a function
- * may write overlaps nothing else that is lent to it. Apart from that every number, every byte and every
- * state of a reader is a legal argument. */
+ * may write overlaps nothing else that is lent to it. Apart from that any numbers and any bytes are legal
+ * arguments, also the bytes of a reader. */
 #ifndef AMP_H
 #define AMP_H
 
@@ -27,7 +27,7 @@ extern "C" {
 enum {
     AMP_NO_FAMILY = 1,      /* the family is not 1 to 4 */
     AMP_NO_CODE = 2,        /* a command or an acknowledgement cannot carry this code */
-    AMP_NO_RECORD = 3,      /* a value does not fit its place, or there is no such kind */
+    AMP_NO_RECORD = 3,      /* a value does not fit its place, values are missing, or there is no writer */
     AMP_NO_ROOM = 4,        /* the lent output, list or row is shorter than the answer */
     AMP_CLOSED = 5,         /* bytes were offered to a closed reader */
     AMP_HOLDS_TOO_MUCH = 6, /* the reader's state claims more held bytes than its family can hold */
@@ -131,13 +131,15 @@ enum {
  * highest. A value with fewer than four is the last but zeros. */
 enum { AMP_OTHER_VALUES = 10 };
 
-/* A stream reader's state, 144 bytes. Any bytes in it are a legal state. */
+/* A stream reader's state, 144 bytes. Where its family is none, amp_feed and amp_close refuse it with 1; where
+ * its count is too large, with 6. Any other bytes they take for a state. */
 typedef struct amp_reader {
     uint8_t family;
-    uint8_t closed;    /* 0 is open, any other closed; amp_close makes it 1, amp_feed leaves it */
-    uint8_t count;     /* how many of the held places are used */
-    uint8_t held[133];
-    uint32_t at;       /* the place of the first held byte in the stream, modulo 2^32 */
+    uint8_t closed;    /* 0 is open, 1 to 255 closed; amp_feed leaves it as it is, amp_close makes it 1 */
+    uint8_t count;     /* how many of the held places are used: up to 75, 133, 5 or 39 by family */
+    uint8_t held[133]; /* what is in the unused ones has no effect; each call that gives 0 leaves zeros there */
+    uint32_t at;       /* the place of the first held byte in the stream, modulo 2^32; where none is held, of the
+                        * next byte to be taken, so how many were taken so far */
     uint32_t skipped;  /* the bytes skipped since the last frame, modulo 2^32 */
 } amp_reader;
 
@@ -158,7 +160,8 @@ uint32_t amp_close(amp_reader *reader);
 uint32_t amp_read(uint32_t family, const uint8_t *bytes, size_t bytes_len,
                   int64_t *row, size_t row_len);
 
-/* Lists the starts of all frames in a capture, and how many there are. Refusal 1, then 7, then 4. */
+/* Lists the starts of all frames in a capture at the front of the list, whose rest is unchanged, and how many
+ * there are. Refusal 1, then 7, then 4. */
 uint32_t amp_list(uint32_t family, const uint8_t *capture, size_t capture_len,
                   uint32_t *starts, size_t starts_len, size_t *count);
 
@@ -168,15 +171,16 @@ uint32_t amp_list(uint32_t family, const uint8_t *capture, size_t capture_len,
 size_t amp_next(uint32_t family, const uint8_t *capture, size_t capture_len,
                 size_t place, uint32_t reports, size_t *start);
 
-/* Writes the frame of a kind, a code and values to the front of the output, and its length: kind, code
- * and values as a row has them. Values behind those of the kind are not looked at, nor is the code of a
- * status report. Refusal 2 for the code of an acknowledgement or a command, 3 for anything else that is no
- * frame with a writer, then 4. A status report has 75 bytes, and 76 with the comma; a message of the KPA1500
- * has 4 to 21, with capital letters. */
+/* Writes the frame of a kind, a code and values to the front of the output, whose rest is unchanged, and its
+ * length: kind, code and values as a row has them. Values behind those of the kind are not looked at, nor is
+ * the code of a status report. Refusal 2 for the code of an acknowledgement or a command, 3 for the values
+ * and for what has no writer, then 4. Without a writer are sentences other than 02, 03 and 05, letters that
+ * are not listed, FT as a question, AMP_OTHER, AMP_MORE, AMP_DONE and a kind that is none. A status report has
+ * 75 bytes, and 76 with the comma; a message of the KPA1500 has 4 to 21, with capital letters. */
 uint32_t amp_write(uint32_t kind, uint32_t code, const int64_t *values, size_t values_len,
                    uint8_t *out, size_t out_len, size_t *length);
 
-/* Writes the bytes that enable the Alpha. Refusal 4. */
+/* Writes the bytes that enable the Alpha in the same way. Refusal 4. */
 uint32_t amp_write_enable(uint8_t *out, size_t out_len, size_t *length);
 
 /* How stamp a stands to stamp b. No refusal: one of these four. */

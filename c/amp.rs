@@ -133,7 +133,7 @@ pub const AMP_LATER: u32 = 2;
 pub const AMP_EQUAL: u32 = 3;
 pub const AMP_CANNOT_SAY: u32 = 4;
 
-/// A stream reader's state, 144 bytes; any bytes in it are a legal state.
+/// A stream reader's state, 144 bytes; any bytes in it are a legal argument.
 #[repr(C)]
 #[derive(Clone, Copy, PartialEq, Eq, Debug)]
 pub struct AmpReader {

@@ -1,12 +1,12 @@
 /* Calls the library as the worst of callers would, who keeps nothing but what the header's head asks:
  * readers of any 144 bytes, families, codes and places of any number, values at the ends of 64 bits,
- * slices of any length, frames with a byte spoiled. After each call it looks at what came back and at
- * what else has changed.
+ * slices of any length that often end or begin where memory does, frames with a byte spoiled. After each
+ * call it looks at what came back and at what else has changed.
  *
  *     hostile [SEED [CALLS]]
  *
  * The same seed makes the same calls. The first wrong calls are printed, and a last line 'N calls, M
- * wrong'; the status is 0 only if none is. */
+ * wrong'; the status is 0 only if none is. A call that touches memory beyond what it was lent is the last. */
 #include "hostile.h"
 
 /* ---- amp_fresh, amp_close ------------------------------------------------------------------- */
@@ -118,12 +118,12 @@ static void try_feed(void)
     int64_t *row;
 
     begin(FEED);
-    bytes = lend(n, 1);
-    row = lend(room * sizeof *row, sizeof *row);
     reader = lend(sizeof *reader, 4);
     some_reader(reader);
     if (reader->closed != 0 && !once_in(4))
         n = 0;
+    bytes = lend(n, 1);
+    row = lend(room * sizeof *row, sizeof *row);
     some_bytes(bytes, n, reader->family);
     was = *reader;
     seal();
@@ -431,10 +431,9 @@ static void (*const tries[])(void) = {
 
 int main(int argc, char **argv)
 {
-    uint64_t seed = argc > 1 ? strtoull(argv[1], NULL, 10) : 1;
     unsigned long most = argc > 2 ? strtoull(argv[2], NULL, 10) : 3200000;
 
-    state = seed;
+    seed = state = argc > 1 ? strtoull(argv[1], NULL, 10) : 1;
     if (!make_arena())
         return 2;
     make_pool();

@@ -1,5 +1,5 @@
-/* What hostile.c and its tries stand on: chances, lent memory with guards around it, the rules that a
- * result is held to, arguments and readers. */
+/* What hostile.c and its tries stand on: chances, lent memory with guards and fences around it, the rules that
+ * a result is held to, arguments and readers. */
 #ifndef HOSTILE_H
 #define HOSTILE_H
 
@@ -10,7 +10,7 @@
 /* The functions that are called. */
 enum { FRESH, FEED, CLOSE, READ, LIST, NEXT, WRITE, ENABLE, STAMPS, FUNCTIONS };
 
-extern uint64_t state;
+extern uint64_t seed, state;
 extern unsigned long calls, wrong;
 
 void expect(int right, const char *what);
@@ -26,7 +26,8 @@ void fill(void *to, size_t n);
 void note(uint32_t number);
 void print_numbers(void);
 
-/* Lent memory: what is lent between begin and seal may be altered only where it is allowed. */
+/* Lent memory: what is lent between begin and seal may be altered only where it is allowed. A part often ends or
+ * begins where memory does; a touch beyond it there is told, and is the end of the program. */
 int make_arena(void);
 void begin(unsigned which);
 void *lend(size_t n, size_t align);

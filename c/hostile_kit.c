@@ -3,7 +3,7 @@
 
 /* ---- Chances -------------------------------------------------------------------------------- */
 
-uint64_t state;
+uint64_t seed, state;
 
 uint64_t chance(void)
 {
@@ -65,6 +65,15 @@ void expect(int right, const char *what)
         printf("wrong: call %lu, %s: not %s\n", calls, names[function], what);
 }
 
+/* A fence was touched: by the call, or by one that looks at what it gave. Neither can go on. */
+static void stop_at_fence(int number)
+{
+    printf("wrong: call %lu, %s, seed %lu: signal %d, memory was touched that was not lent\n", calls,
+           names[function], (unsigned long)seed, number);
+    printf("%lu calls, %lu wrong\n", calls, wrong + !this_wrong);
+    exit(1);
+}
+
 /* Takes note of a function's number. Of amp_next it is 0 for none and 1 for a frame. */
 void note(uint32_t number)
 {
@@ -88,23 +97,42 @@ void print_numbers(void)
 
 /* ---- Lent memory ---------------------------------------------------------------------------- */
 
-/* All lent memory is taken from one arena, from its end down, with at least GUARD bytes before each
- * part. Behind the arena stands a page that nobody may read, so a look beyond the part that was lent
- * first ends the program. */
-#define GUARD 24u
-#define PAGE 65536u
-#define ARENA (8u * PAGE)
+/* Each part that is lent for a call stands in a field of its own. Before and behind each field is a fence of memory
+ * that nobody may touch. Half of the parts end where their field ends, a quarter begin where it begins, and the
+ * others stand inside. The GUARD bytes before and behind a part, as far as the field goes, are watched with it. */
+#define GUARD 64u
+
+/* A whole number of pages, also where an emulator runs on a system whose pages are larger than those of x86-64. */
+#define FENCE 65536u
+
+/* Room for the longest capture, or for the longest list of starts; and no call is lent more than three parts. */
+#define FIELD (2u * FENCE)
+#define FIELDS 3u
+#define STEP (FENCE + FIELD)
+#define ARENA (FIELDS * STEP + FENCE)
+
+struct span {
+    size_t from, end;
+};
 
 static uint8_t *arena, *before;
-static size_t low;
+static struct span watched[FIELDS];
+static size_t parts;
 
 int make_arena(void)
 {
-    arena = mmap(NULL, ARENA + PAGE, SYS_READ | SYS_WRITE, SYS_PRIVATE | SYS_ANONYMOUS, -1, 0);
+    size_t fence;
+
+    arena = mmap(NULL, ARENA, SYS_READ | SYS_WRITE, SYS_PRIVATE | SYS_ANONYMOUS, -1, 0);
     before = malloc(ARENA);
-    if (arena == SYS_NO_MAP || before == NULL || mprotect(arena + ARENA, PAGE, 0) != 0)
+    if (arena == SYS_NO_MAP || before == NULL)
         return 0;
     fill(arena, ARENA);
+    for (fence = 0; fence < ARENA; fence += STEP)
+        if (mprotect(arena + fence, FENCE, 0) != 0)
+            return 0;
+    signal(SYS_NO_MEMORY, stop_at_fence);
+    signal(SYS_NOT_ALLOWED, stop_at_fence);
     return 1;
 }
 
@@ -113,23 +141,36 @@ void begin(unsigned which)
     function = which;
     calls++;
     this_wrong = 0;
-    low = ARENA;
+    parts = 0;
+}
+
+/* Where in its field a part stands. */
+static size_t some_place(size_t n, size_t align)
+{
+    switch (some_below(4)) {
+    case 0: return 0;
+    case 1: return GUARD + some_below(GUARD) / align * align;
+    default: return (FIELD - n) / align * align;
+    }
 }
 
 void *lend(size_t n, size_t align)
 {
-    uint8_t *part;
+    size_t field = parts * STEP + FENCE, place = some_place(n, align), behind = FIELD - place - n;
+    struct span *span = &watched[parts++];
 
-    low = (low - n) / align * align;
-    part = arena + low;
-    low -= GUARD + some_below(8);
-    return part;
+    span->from = field + place - (place < GUARD ? place : GUARD);
+    span->end = field + place + n + (behind < GUARD ? behind : GUARD);
+    return arena + field + place;
 }
 
-/* Notes what is in the arena before the call. */
+/* Notes what is in the watched spans before the call. */
 void seal(void)
 {
-    memcpy(before + low, arena + low, ARENA - low);
+    size_t i;
+
+    for (i = 0; i < parts; i++)
+        memcpy(before + watched[i].from, arena + watched[i].from, watched[i].end - watched[i].from);
 }
 
 /* This part may have changed. */
@@ -143,7 +184,11 @@ void allow(const void *part, size_t n)
 /* Everything else may not. */
 void finish(void)
 {
-    expect(memcmp(before + low, arena + low, ARENA - low) == 0, "unchanged beside what may change");
+    size_t i;
+
+    for (i = 0; i < parts; i++)
+        expect(memcmp(before + watched[i].from, arena + watched[i].from, watched[i].end - watched[i].from) == 0,
+               "unchanged beside what may change");
 }
 
 /* ---- The rules that a result is held to ----------------------------------------------------- */

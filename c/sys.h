@@ -1,7 +1,7 @@
 /* The few functions of the C library that these programs call, declared here because the toolchain's
  * clang has no headers. The declarations are those of Linux on x86-64, so a compiler that does have
- * headers takes them too; a file that includes this one includes none of <stdio.h>, <string.h>,
- * <time.h>, <unistd.h>, <fcntl.h> or <termios.h>. */
+ * headers takes them too; a file that includes this one includes none of <stdio.h>, <stdlib.h>, <string.h>,
+ * <signal.h>, <time.h>, <unistd.h>, <fcntl.h> or <termios.h>. */
 #ifndef SYS_H
 #define SYS_H
 
@@ -32,6 +32,11 @@ enum { SYS_READ = 1, SYS_WRITE = 2, SYS_PRIVATE = 2, SYS_ANONYMOUS = 0x20 };
 #define SYS_NO_MAP ((void *)-1)
 void *mmap(void *at, size_t n, int allowed, int flags, int file, long offset);
 int mprotect(void *at, size_t n, int allowed);
+
+/* The signals of a touch of memory that is not there, or may not be touched. */
+enum { SYS_NO_MEMORY = 7, SYS_NOT_ALLOWED = 11 };
+void (*signal(int number, void (*handler)(int)))(int);
+void exit(int status) __attribute__((noreturn));
 
 long read(int file, void *to, size_t n);
 long write(int file, const void *from, size_t n);
