@@ -26,26 +26,28 @@ record Left (p rest : List ℕ) (allowed : Bool) (s1 s2 weight : ℕ) : Type 0 w
   first : (s1 + total rest) % 256 ≡ total p % 256
   second : (s2 + weighed rest) % 256 ≡ weighed p % 256
   weighs : weight ≡ length rest % 256
+  small : (s1 < 256) × (s2 < 256)
 
 next : (p rest : List ℕ) (b : ℕ) (allowed : Bool) (s1 s2 weight less : ℕ)
     → Left p (b ∷ rest) allowed s1 s2 weight
     → (less + 1) % 2 ^ 8 ≡ weight
     → less < 256
-    → Left p rest (allowed && isPayloadByte b) ((s1 + b) % 2 ^ 16) ((s2 + weight * b) % 2 ^ 16) less
+    → Left p rest (allowed && isPayloadByte b) ((s1 + b) % 2 ^ 8) ((s2 + weight * b % 256) % 2 ^ 8) less
 unfolding every total weighed
 next p rest b allowed s1 s2 weight less l e h = record {
   tested = and-assoc allowed (isPayloadByte b) (every isPayloadByte rest) ∙ l .tested;
   first = omega (arith, l .first);
   second = omega (arith, l .second, rest-of-factor (length (b ∷ rest)) b, ap (λ (w : ℕ). w * b) (l .weighs));
   weighs = omega (arith, l .weighs);
+  small = (omega arith, omega arith);
 }
 
 done : (p : List ℕ) (allowed : Bool) (s1 s2 weight : ℕ) → Left p [] allowed s1 s2 weight
-    → _≡_ {A = Sums} (record { allowed = allowed; sum1 = s1 % 256; sum2 = s2 % 256 }) (sumsIn p)
+    → _≡_ {A = Sums} (record { allowed = allowed; sum1 = s1; sum2 = s2 }) (sumsIn p)
 unfolding every total weighed sumsIn
 done p allowed s1 s2 weight l =
-    let first : s1 % 256 ≡ total p % 256 = omega (arith, l .first) in
-    let second : s2 % 256 ≡ weighed p % 256 = omega (arith, l .second) in
+    let first : s1 ≡ total p % 256 = omega (arith, l .first, l .small .0) in
+    let second : s2 ≡ weighed p % 256 = omega (arith, l .second, l .small .1) in
     simp (← l .tested, sum1-total, sum2-weighed, ← first, ← second, and-true)
 
 abbrev Inv-loop : tie.InvT-loop
@@ -59,7 +61,7 @@ cast-weight : tie.Need-cast-weight Inv-loop μ-loop
 cast-weight c = search needs
 
 loop-holds : tie.Need-loop-holds Inv-loop μ-loop
-loop-holds c = (omega arith, record { tested = refl; first = omega arith; second = omega arith; weighs = omega arith })
+loop-holds c = (omega arith, record { tested = refl; first = omega arith; second = omega arith; weighs = omega arith; small = (omega arith, omega arith) })
 
 shared-slice-read-b : tie.Need-shared-slice-read-b Inv-loop μ-loop
 shared-slice-read-b c = omega arith
@@ -67,27 +69,14 @@ shared-slice-read-b c = omega arith
 payload-byte-requires : tie.Need-payload-byte-requires Inv-loop μ-loop
 payload-byte-requires c κs = search needs
 
-cast-wrapping-add-u16 : tie.Need-cast-wrapping-add-u16 Inv-loop μ-loop
-cast-wrapping-add-u16 c = omega (arith, c .before .shared-slice-known2 .given (c .before .before .before .loop .i))
+wrapping-add-u8-requires : tie.Need-wrapping-add-u8-requires Inv-loop μ-loop
+wrapping-add-u8-requires c κs = search needs
 
-wrapping-add-u16-requires : tie.Need-wrapping-add-u16-requires Inv-loop μ-loop
-wrapping-add-u16-requires c κs = search needs
+weighed-requires : tie.Need-weighed-requires Inv-loop μ-loop
+weighed-requires c κs = search needs
 
-cast-wrapping-add-u16-2 : tie.Need-cast-wrapping-add-u16-2 Inv-loop μ-loop
-cast-wrapping-add-u16-2 c = omega arith
-
-cast-wrapping-add-u16-3 : tie.Need-cast-wrapping-add-u16-3 Inv-loop μ-loop
-cast-wrapping-add-u16-3 c = omega (arith, c .before .before .shared-slice-known2 .given (c .before .before .before .before .loop .i))
-
-mul-wrapping-add-u16 : tie.Need-mul-wrapping-add-u16 Inv-loop μ-loop
-mul-wrapping-add-u16 c =
-    let turn = c .before .before .before .before in
-    let small : turn .loop .weight ≤ 255 = omega arith in
-    let byte : getD (now (turn .before .before .args .p)) (turn .loop .i) 0 ≤ 255 = omega (arith, c .before .before .shared-slice-known2 .given (turn .loop .i)) in
-    omega (arith, mul-le-mul small byte)
-
-wrapping-add-u16-requires-2 : tie.Need-wrapping-add-u16-requires-2 Inv-loop μ-loop
-wrapping-add-u16-requires-2 c κs = search needs
+wrapping-add-u8-requires-2 : tie.Need-wrapping-add-u8-requires-2 Inv-loop μ-loop
+wrapping-add-u8-requires-2 c κs = search needs
 
 wrapping-sub-u8-requires : tie.Need-wrapping-sub-u8-requires Inv-loop μ-loop
 wrapping-sub-u8-requires c κs = search needs
@@ -100,19 +89,13 @@ loop-less c = omega arith
 
 loop-again : tie.Need-loop-again Inv-loop μ-loop
 loop-again c =
-    let turn = c .before .before .before .before .before .before in
+    let turn = c .before .before .before .before .before .before .before in
     let p = now (turn .before .before .args .p) in
     let h : turn .loop .i < length p = omega arith in (
       omega arith,
-      rw (c .before .wrapping-add-u162 .ensures, c .before .before .wrapping-add-u16 .ensures, c .before .before .before .payload-byte .ensures, add-one)
+      rw (c .before .wrapping-add-u82 .ensures, c .before .before .weighed .ensures, c .before .before .before .wrapping-add-u8 .ensures, c .before .before .before .before .payload-byte .ensures, add-one)
           (next p _ _ _ _ _ _ _ (rw (drop-cons p (turn .loop .i) 0) at (turn .loop .inv .1)) (c .wrapping-sub-u8 .ensures) (omega arith)),
     )
-
-cast-t18 : tie.Need-cast-t18 Inv-loop μ-loop
-cast-t18 c = search needs
-
-cast-t20 : tie.Need-cast-t20 Inv-loop μ-loop
-cast-t20 c = search needs
 
 returns : tie.Need-returns Inv-loop μ-loop
 returns c =
@@ -130,16 +113,11 @@ fletcher-spec =
     loop-holds
     shared-slice-read-b
     payload-byte-requires
-    cast-wrapping-add-u16
-    wrapping-add-u16-requires
-    cast-wrapping-add-u16-2
-    cast-wrapping-add-u16-3
-    mul-wrapping-add-u16
-    wrapping-add-u16-requires-2
+    wrapping-add-u8-requires
+    weighed-requires
+    wrapping-add-u8-requires-2
     wrapping-sub-u8-requires
     add-i
     loop-less
     loop-again
-    cast-t18
-    cast-t20
     returns)
