@@ -1,0 +1,79 @@
+-- `listings::prints::print_listing`: the lister never counts more starts than it has places for, and those that it counts are
+-- the rule's.
+-- Assumes nothing.
+use Prim.Native.Nat.{ℕ}
+use mathlib.Core.Path.{_≡_, sym, ap, subst}
+use mathlib.Core.List.{List}
+use native.Mathlib.Omega.{arith}
+use lib.ListN.{length, length-take}
+use Rattle.stream_rules.specs.Lister.{frames}
+use Rattle.stream_laws.proofs.Listing.{lists-fit}
+use Rattle.listings.specs.Walks.{walked}
+use Rattle.listings.specs.declared.table.Walk.{Walk}
+use Rattle.listings.proofs.Walks.{all-starts}
+use borrow.Author.Needs.{needs}
+use Rattle.listings.proofs.prints.print_listing.Statement.{statement}
+use Rattle.listings.proofs.prints.print_listing.Tie as tie
+
+starts-buffer-requires : tie.Need-starts-buffer-requires
+starts-buffer-requires c κs = search needs
+
+slice-aggregate-list-frames : tie.Need-slice-aggregate-list-frames
+slice-aggregate-list-frames c = search needs
+
+list-frames-requires : tie.Need-list-frames-requires
+list-frames-requires c κs = search needs
+
+enum-known-n : tie.Need-enum-known-n
+enum-known-n c = search needs
+
+print-heading-requires : tie.Need-print-heading-requires
+print-heading-requires c κs = search needs
+
+array-share-prefix-starts : tie.Need-array-share-prefix-starts
+array-share-prefix-starts c = lists-fit _ _ _ _ _ _ (c .before .before .before .before .before .list-frames .ensures) (c .before .before .n .given .1)
+
+slice-aggregate-print-frames : tie.Need-slice-aggregate-print-frames
+slice-aggregate-print-frames c = omega (arith, array-share-prefix-starts (c .before), length-take (c .before .before .before .n .given .0 .0) (c .before .before .before .before .before .before .list-frames .last .1 .1 .0))
+
+print-frames-requires : tie.Need-print-frames-requires
+print-frames-requires c κs = all-starts _ _ _ _ _ _ (c .before .before .before .before .before .before .list-frames .ensures) (c .before .before .before .n .given .1)
+
+-- how far a family's listing has come, said of the family that it names
+own : (family : ℕ) (capture : List ℕ) (w : Walk) → w ≡ walked family capture (length (frames family capture))
+    → w ≡ walked (w .family) capture (length (frames (w .family) capture))
+own family capture w e =
+    subst (λ (k : ℕ). w ≡ walked k capture (length (frames k capture))) (sym (ap (λ (x : Walk). x .family) e)) e
+
+print-last-requires : tie.Need-print-last-requires
+print-last-requires c κs = own _ _ _ (c .print-frames .ensures)
+
+enum-known-n-2 : tie.Need-enum-known-n-2
+enum-known-n-2 c = search needs
+
+print-refused-requires : tie.Need-print-refused-requires
+print-refused-requires c κs = search needs
+
+returns : tie.Need-returns
+returns c = search needs
+
+returns-2 : tie.Need-returns-2
+returns-2 c = search needs
+
+pub print-listing-spec : {M : Type 1} → statement M
+print-listing-spec =
+    tie.close
+    (tie.spec
+    starts-buffer-requires
+    slice-aggregate-list-frames
+    list-frames-requires
+    enum-known-n
+    print-heading-requires
+    array-share-prefix-starts
+    slice-aggregate-print-frames
+    print-frames-requires
+    print-last-requires
+    enum-known-n-2
+    print-refused-requires
+    returns
+    returns-2)

@@ -1,0 +1,49 @@
+-- The listing of a capture, over the frames that demand 3's rule finds in it. A line is some texts, one behind the other.
+use Prim.Native.Nat.{ℕ, _-_}
+use mathlib.Core.Bool.{cond, not}
+use mathlib.Core.List.{List, [], _∷_, _++_, map, flatMap}
+use lib.ListN.{length}
+use Rattle.rules.specs.Bytes.{ascii, total}
+use Rattle.rules.specs.Answers.{noFamily, isFamily, kindOf}
+use Rattle.stream_rules.specs.Rule.{Found}
+use Rattle.stream_rules.specs.Lister.{frames, fits, tooLong}
+use Rattle.lines.specs.Lines.{decimalText, spacedTexts, refusedTexts}
+use Rattle.listings.specs.Kinds.{kindTexts}
+
+-- the names of the columns
+abbrev pub headingTexts : List (List ℕ)
+headingTexts = ascii "start length skipped kind" ∷ []
+
+-- The line of a frame: its start, its length, the bytes skipped before it and its kind, with a space between each two.
+abbrev pub frameTexts : Found → List (List ℕ)
+frameTexts f =
+    decimalText (f .start) ∷ spacedTexts (f .length) ++ spacedTexts (f .skipped) ++ ascii " " ∷ kindTexts (kindOf (f .frame))
+
+abbrev pub frameLines : ℕ → List ℕ → List (List (List ℕ))
+frameLines family capture = map frameTexts (frames family capture)
+
+-- how many bytes some frames have together
+abbrev pub inside : List Found → ℕ
+inside fs = total (map (λ (f : Found). f .length) fs)
+
+-- The last line: how many frames there are, how many bytes, and how many bytes in no frame.
+abbrev pub lastTexts : ℕ → List ℕ → List (List ℕ)
+lastTexts family capture =
+    ascii "frames" ∷ spacedTexts (length (frames family capture))
+    ++ ascii " bytes" ∷ spacedTexts (length capture)
+    ++ ascii " skipped" ∷ spacedTexts (length capture - inside (frames family capture))
+
+-- All lines; refusal 1, then 7, is a line alone.
+unfoldable pub listingLines : ℕ → List ℕ → List (List (List ℕ))
+listingLines family capture =
+    cond (not (isFamily family)) (refusedTexts noFamily ∷ [])
+    (cond (not (fits capture)) (refusedTexts tooLong ∷ [])
+    (headingTexts ∷ frameLines family capture ++ lastTexts family capture ∷ []))
+
+-- a line as it is printed, with a line feed behind it
+abbrev pub printed : List (List ℕ) → List ℕ
+printed texts = flatMap (λ (text : List ℕ). text) texts ++ ascii "\n"
+
+-- the whole text
+abbrev pub listing : ℕ → List ℕ → List ℕ
+listing family capture = flatMap printed (listingLines family capture)

@@ -1,0 +1,77 @@
+// Prints the listing of a capture: what is printed is each line as it is laid, and of the printing nothing is promised.
+use crate::table::Walk;
+use crate::table::frame_line;
+use crate::table::heading;
+use crate::table::last_line;
+use lister::list_frames;
+use stream_rules::LONGEST_LIST;
+use stream_rules::Listed;
+ghost use mathlib.Core.Path.{_≡_};
+ghost use Prim.Native.Nat.{_+_};
+ghost use lib.ListN.{length};
+ghost use Rattle.stream_rules.specs.Lister.{frames, longestList};
+ghost use Rattle.listings.specs.Walks.{walked, AllStarts, Onward};
+
+// Room for every line of a listing, with its line end.
+const LINE: usize = 128;
+
+// Room for as many starts as a capture can have frames.
+fn starts_buffer() -> [u32; LONGEST_LIST]
+    ensures { λ r. ⌜ longestList ≡ length r ⌝ }
+{
+    [0; LONGEST_LIST]
+}
+
+// A line for each frame of a capture and one for the whole, or the refusal alone.
+pub fn print_listing(family: u8, capture: &[u8]) {
+    let mut starts = starts_buffer();
+    match list_frames(family, capture, &mut starts) {
+        Listed::Count(n) => {
+            print_heading();
+            let walk = print_frames(family, capture, &starts[..n]);
+            print_last(capture, walk);
+        }
+        Listed::Refused(n) => lines::print_refused(n),
+    }
+}
+
+fn print_heading() {
+    let mut line = [0u8; LINE];
+    let end = heading(&mut line);
+    lines::print(&mut line, end);
+}
+
+// A line for each frame; gives how far the listing has come with them.
+fn print_frames(family: u8, capture: &[u8], starts: &[u32]) -> Walk
+    requires { ⌜ AllStarts family (now capture) (now starts) ⌝ }
+    ensures { λ r. ⌜ r ≡ walked family (now (capture .entry)) (length (frames family (now (capture .entry)))) ⌝ }
+{
+    let mut walk = Walk {
+        family,
+        listed: 0,
+        end: 0,
+        inside: 0,
+    };
+    while walk.listed < starts.len() {
+        walk = print_frame(capture, starts, walk);
+    }
+    walk
+}
+
+fn print_frame(capture: &[u8], starts: &[u32], walk: Walk) -> Walk
+    requires { ⌜ Onward (now capture) (now starts) walk ⌝ }
+    ensures { λ r. ⌜ r ≡ walked (walk .family) (now (capture .entry)) (walk .listed + 1) ⌝ }
+{
+    let mut line = [0u8; LINE];
+    let laid = frame_line(&mut line, capture, starts, walk);
+    lines::print(&mut line, laid.at);
+    laid.walk
+}
+
+fn print_last(capture: &[u8], walk: Walk)
+    requires { ⌜ walk ≡ walked (walk .family) (now capture) (length (frames (walk .family) (now capture))) ⌝ }
+{
+    let mut line = [0u8; LINE];
+    let end = last_line(&mut line, capture, walk);
+    lines::print(&mut line, end);
+}
