@@ -1,5 +1,6 @@
 -- The listing of a capture, over the frames that demand 3's rule finds in it. A line is some texts, one behind the other.
 use Prim.Native.Nat.{ℕ, _-_}
+use Prim.Native.Char.{code}
 use mathlib.Core.Bool.{cond, not}
 use mathlib.Core.List.{List, [], _∷_, _++_, map, flatMap}
 use lib.ListN.{length}
@@ -41,9 +42,21 @@ listingLines family capture =
     (headingTexts ∷ frameLines family capture ++ lastTexts family capture ∷ []))
 
 -- a line as it is printed, with a line feed behind it
+abbrev pub joined : List (List ℕ) → List ℕ
+joined texts = flatMap (λ (text : List ℕ). text) texts
+
 abbrev pub printed : List (List ℕ) → List ℕ
-printed texts = flatMap (λ (text : List ℕ). text) texts ++ ascii "\n"
+printed texts = joined texts ++ ascii "\n"
 
 -- the whole text
 abbrev pub listing : ℕ → List ℕ → List ℕ
 listing family capture = flatMap printed (listingLines family capture)
+
+-- What the program's input is: the family's digit, and the capture. Without a digit there is no family.
+abbrev pub output : List ℕ → List ℕ
+output [] = printed (refusedTexts noFamily)
+output (digit ∷ capture) = listing (digit - code "0") capture
+
+-- A line has room for so many bytes.
+abbrev pub lineRoom : ℕ
+lineRoom = 128

@@ -10,10 +10,17 @@ ghost use mathlib.Core.Path.{_≡_};
 ghost use Prim.Native.Nat.{_+_};
 ghost use lib.ListN.{length};
 ghost use Rattle.stream_rules.specs.Lister.{frames, longestList};
+ghost use Rattle.listings.specs.Listing.{lineRoom};
 ghost use Rattle.listings.specs.Walks.{walked, AllStarts, Onward};
 
-// Room for every line of a listing, with its line end.
 const LINE: usize = 128;
+
+// Room for every line of a listing, with its line end.
+fn line_buffer() -> [u8; LINE]
+    ensures { λ r. ⌜ lineRoom ≡ length r ⌝ }
+{
+    [0; LINE]
+}
 
 // Room for as many starts as a capture can have frames.
 fn starts_buffer() -> [u32; LONGEST_LIST]
@@ -36,7 +43,7 @@ pub fn print_listing(family: u8, capture: &[u8]) {
 }
 
 fn print_heading() {
-    let mut line = [0u8; LINE];
+    let mut line = line_buffer();
     let end = heading(&mut line);
     lines::print(&mut line, end);
 }
@@ -62,7 +69,7 @@ fn print_frame(capture: &[u8], starts: &[u32], walk: Walk) -> Walk
     requires { ⌜ Onward (now capture) (now starts) walk ⌝ }
     ensures { λ r. ⌜ r ≡ walked (walk .family) (now (capture .entry)) (walk .listed + 1) ⌝ }
 {
-    let mut line = [0u8; LINE];
+    let mut line = line_buffer();
     let laid = frame_line(&mut line, capture, starts, walk);
     lines::print(&mut line, laid.at);
     laid.walk
@@ -71,7 +78,7 @@ fn print_frame(capture: &[u8], starts: &[u32], walk: Walk) -> Walk
 fn print_last(capture: &[u8], walk: Walk)
     requires { ⌜ walk ≡ walked (walk .family) (now capture) (length (frames (walk .family) (now capture))) ⌝ }
 {
-    let mut line = [0u8; LINE];
+    let mut line = line_buffer();
     let end = last_line(&mut line, capture, walk);
     lines::print(&mut line, end);
 }
