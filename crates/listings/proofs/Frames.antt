@@ -23,7 +23,7 @@ use Rattle.stream_laws.proofs.Starts.{close-at-good}
 use Rattle.stream_laws.proofs.Families.{facts}
 use Rattle.search.proofs.Walk.{left}
 use Rattle.listings.specs.Listing.{inside}
-use Rattle.listings.specs.Walks.{behindLast}
+use Rattle.listings.specs.Tallies.{behindLast}
 
 -- The first of the frames that the rule finds from a place on: it stands behind some skipped bytes, is good there, and the
 -- rule goes on right behind it.

@@ -1,6 +1,6 @@
--- `Frames` has what is found at a frame of the rule and behind some frames, and `Walks` how far a listing has come; `Room` says
+-- `Frames` has what is found at a frame of the rule and behind some frames, and `Tallies` how far a listing has come; `Room` says
 -- that nothing of a line is left out, and `Sheet` has the listings of the bench sheet.
 pub mod Frames
-pub mod Walks
+pub mod Tallies
 pub mod Room
 pub mod Sheet

@@ -2,5 +2,5 @@
 pub mod Kinds
 pub mod Parts
 pub mod Listing
-pub mod Walks
+pub mod Tallies
 pub mod Bench

@@ -3,7 +3,7 @@ use Prim.Native.Nat.{ℕ, _-_}
 use Prim.Native.Char.{code}
 use mathlib.Core.Bool.{cond, not}
 use mathlib.Core.List.{List, [], _∷_, _++_, map, flatMap}
-use lib.ListN.{length}
+use lib.ListN.{length, getD}
 use Rattle.rules.specs.Bytes.{ascii, total}
 use Rattle.rules.specs.Answers.{noFamily, isFamily, kindOf}
 use Rattle.stream_rules.specs.Rule.{Found}
@@ -16,12 +16,18 @@ abbrev pub headingTexts : List (List ℕ)
 headingTexts = ascii "start length skipped kind" ∷ []
 
 -- The line of a frame: its start, its length, the bytes skipped before it and its kind, with a space between each two.
-abbrev pub frameTexts : Found → List (List ℕ)
-frameTexts f =
-    decimalText (f .start) ∷ spacedTexts (f .length) ++ spacedTexts (f .skipped) ++ ascii " " ∷ kindTexts (kindOf (f .frame))
+abbrev pub numberTexts : ℕ → ℕ → ℕ → List (List ℕ)
+numberTexts start long skipped = decimalText start ∷ spacedTexts long ++ spacedTexts skipped ++ ascii " " ∷ []
 
+abbrev pub frameTexts : Found → List (List ℕ)
+frameTexts f = numberTexts (f .start) (f .length) (f .skipped) ++ kindTexts (kindOf (f .frame))
+
+-- the lines of all frames, and the n-th of them
 abbrev pub frameLines : ℕ → List ℕ → List (List (List ℕ))
 frameLines family capture = map frameTexts (frames family capture)
+
+abbrev pub frameLine : ℕ → List ℕ → ℕ → List (List ℕ)
+frameLine family capture n = getD (frameLines family capture) n []
 
 -- how many bytes some frames have together
 abbrev pub inside : List Found → ℕ

@@ -1,5 +1,5 @@
 // Prints the listing of a capture: what is printed is each line as it is laid, and of the printing nothing is promised.
-use crate::table::Walk;
+use crate::table::Tally;
 use crate::table::frame_line;
 use crate::table::heading;
 use crate::table::last_line;
@@ -9,9 +9,9 @@ use stream_rules::Listed;
 ghost use mathlib.Core.Path.{_≡_};
 ghost use Prim.Native.Nat.{_+_};
 ghost use lib.ListN.{length};
-ghost use Rattle.stream_rules.specs.Lister.{frames, longestList};
+ghost use Rattle.stream_rules.specs.Lister.{longestList};
 ghost use Rattle.listings.specs.Listing.{lineRoom};
-ghost use Rattle.listings.specs.Walks.{walked, AllStarts, Onward};
+ghost use Rattle.listings.specs.Tallies.{tallied, allTallied, AllStarts, Onward};
 
 const LINE: usize = 128;
 
@@ -35,8 +35,8 @@ pub fn print_listing(family: u8, capture: &[u8]) {
     match list_frames(family, capture, &mut starts) {
         Listed::Count(n) => {
             print_heading();
-            let walk = print_frames(family, capture, &starts[..n]);
-            print_last(capture, walk);
+            let tally = print_frames(family, capture, &starts[..n]);
+            print_last(capture, tally);
         }
         Listed::Refused(n) => lines::print_refused(n),
     }
@@ -48,37 +48,37 @@ fn print_heading() {
     lines::print(&mut line, end);
 }
 
-// A line for each frame; gives how far the listing has come with them.
-fn print_frames(family: u8, capture: &[u8], starts: &[u32]) -> Walk
+// A line for each frame; gives the tally of all.
+fn print_frames(family: u8, capture: &[u8], starts: &[u32]) -> Tally
     requires { ⌜ AllStarts family (now capture) (now starts) ⌝ }
-    ensures { λ r. ⌜ r ≡ walked family (now (capture .entry)) (length (frames family (now (capture .entry)))) ⌝ }
+    ensures { λ r. ⌜ r ≡ allTallied family (now (capture .entry)) ⌝ }
 {
-    let mut walk = Walk {
+    let mut tally = Tally {
         family,
         listed: 0,
         end: 0,
         inside: 0,
     };
-    while walk.listed < starts.len() {
-        walk = print_frame(capture, starts, walk);
+    while tally.listed < starts.len() {
+        tally = print_frame(capture, starts, tally);
     }
-    walk
+    tally
 }
 
-fn print_frame(capture: &[u8], starts: &[u32], walk: Walk) -> Walk
-    requires { ⌜ Onward (now capture) (now starts) walk ⌝ }
-    ensures { λ r. ⌜ r ≡ walked (walk .family) (now (capture .entry)) (walk .listed + 1) ⌝ }
+fn print_frame(capture: &[u8], starts: &[u32], tally: Tally) -> Tally
+    requires { ⌜ Onward (now capture) (now starts) tally ⌝ }
+    ensures { λ r. ⌜ r ≡ tallied (tally .family) (now (capture .entry)) (tally .listed + 1) ⌝ }
 {
     let mut line = line_buffer();
-    let laid = frame_line(&mut line, capture, starts, walk);
+    let laid = frame_line(&mut line, capture, starts, tally);
     lines::print(&mut line, laid.at);
-    laid.walk
+    laid.tally
 }
 
-fn print_last(capture: &[u8], walk: Walk)
-    requires { ⌜ walk ≡ walked (walk .family) (now capture) (length (frames (walk .family) (now capture))) ⌝ }
+fn print_last(capture: &[u8], tally: Tally)
+    requires { ⌜ tally ≡ allTallied (tally .family) (now capture) ⌝ }
 {
     let mut line = line_buffer();
-    let end = last_line(&mut line, capture, walk);
+    let end = last_line(&mut line, capture, tally);
     lines::print(&mut line, end);
 }

@@ -6,29 +6,24 @@ use captures::next_frame;
 use records::fields_of;
 use rules::Reading;
 ghost use mathlib.Core.Path.{_≡_};
-ghost use mathlib.Core.List.{[], _∷_, _++_};
-ghost use Prim.Native.Nat.{_+_};
-ghost use lib.ListN.{length, getD};
-ghost use Rattle.rules.specs.Bytes.{ascii};
-ghost use Rattle.stream_rules.specs.Lister.{frames};
-ghost use Rattle.lines.specs.Lines.{Types, decimalText, spacedTexts};
+ghost use Rattle.lines.specs.Lines.{Types};
 ghost use Rattle.listings.specs.Parts.{partTexts};
-ghost use Rattle.listings.specs.Listing.{headingTexts, frameLines, lastTexts};
-ghost use Rattle.listings.specs.Walks.{walked, Onward};
+ghost use Rattle.listings.specs.Listing.{headingTexts, numberTexts, lastTexts};
+ghost use Rattle.listings.specs.Tallies.{allTallied, Onward, LaysNext};
 
 // How far a listing has come: how many frames of the family are listed, where the last of them ends, and how many bytes lie
 // in them.
-pub struct Walk {
+pub struct Tally {
     pub family: u8,
     pub listed: usize,
     pub end: usize,
     pub inside: usize,
 }
 
-// A frame's line that is laid: the place behind it, and how far the listing has come with it.
+// A frame's line that is laid: the place behind it, and the tally with this frame.
 pub struct Laid {
     pub at: usize,
-    pub walk: Walk,
+    pub tally: Tally,
 }
 
 // The names of the columns.
@@ -38,35 +33,34 @@ pub(crate) fn heading(line: &mut [u8]) -> usize
     lines::text(line, 0, b"start length skipped kind")
 }
 
-// The line of the next frame that is not listed yet.
-pub(crate) fn frame_line(line: &mut [u8], capture: &[u8], starts: &[u32], walk: Walk) -> Laid
-    requires { ⌜ Onward (now capture) (now starts) walk ⌝ }
-    ensures { λ r. ⌜ Types (getD (frameLines (walk .family) (now (capture .entry))) (walk .listed) []) (now (line .entry)) 0 (now (line .exit)) (r .at) ⌝ }
-    ensures { λ r. ⌜ r .walk ≡ walked (walk .family) (now (capture .entry)) (walk .listed + 1) ⌝ }
+// The line of the first frame that is not listed yet.
+pub(crate) fn frame_line(line: &mut [u8], capture: &[u8], starts: &[u32], tally: Tally) -> Laid
+    requires { ⌜ Onward (now capture) (now starts) tally ⌝ }
+    ensures { λ r. ⌜ LaysNext (now (capture .entry)) tally (now (line .entry)) (now (line .exit)) r ⌝ }
 {
-    let i = walk.listed;
+    let i = tally.listed;
     let start = starts[i] as usize;
-    let frame = next_frame(walk.family, capture, start);
-    let at = numbers(line, start, frame.len(), start - walk.end);
-    let place = part_kind(line, at, walk.family, frame);
-    let after = Walk {
-        family: walk.family,
+    let frame = next_frame(tally.family, capture, start);
+    let at = numbers(line, start, frame.len(), start - tally.end);
+    let place = part_kind(line, at, tally.family, frame);
+    let further = Tally {
+        family: tally.family,
         listed: i + 1,
         end: start + frame.len(),
-        inside: walk.inside + frame.len(),
+        inside: tally.inside + frame.len(),
     };
     Laid {
         at: place,
-        walk: after,
+        tally: further,
     }
 }
 
 // The columns before the kind.
-fn numbers(line: &mut [u8], start: usize, length: usize, skipped: usize) -> usize
-    ensures { λ r. ⌜ Types (decimalText start ∷ spacedTexts «length» ++ spacedTexts skipped ++ ascii " " ∷ []) (now (line .entry)) 0 (now (line .exit)) r ⌝ }
+fn numbers(line: &mut [u8], start: usize, long: usize, skipped: usize) -> usize
+    ensures { λ r. ⌜ Types (numberTexts start long skipped) (now (line .entry)) 0 (now (line .exit)) r ⌝ }
 {
     let at = lines::number(line, 0, start as u64);
-    let at = lines::spaced(line, at, length as u64);
+    let at = lines::spaced(line, at, long as u64);
     let at = lines::spaced(line, at, skipped as u64);
     lines::text(line, at, b" ")
 }
@@ -86,14 +80,14 @@ pub fn part_kind(line: &mut [u8], at: usize, family: u8, frame: &[u8]) -> usize
 }
 
 // The last line, where all frames are listed.
-pub(crate) fn last_line(line: &mut [u8], capture: &[u8], walk: Walk) -> usize
-    requires { ⌜ walk ≡ walked (walk .family) (now capture) (length (frames (walk .family) (now capture))) ⌝ }
-    ensures { λ r. ⌜ Types (lastTexts (walk .family) (now (capture .entry))) (now (line .entry)) 0 (now (line .exit)) r ⌝ }
+pub(crate) fn last_line(line: &mut [u8], capture: &[u8], tally: Tally) -> usize
+    requires { ⌜ tally ≡ allTallied (tally .family) (now capture) ⌝ }
+    ensures { λ r. ⌜ Types (lastTexts (tally .family) (now (capture .entry))) (now (line .entry)) 0 (now (line .exit)) r ⌝ }
 {
     let at = lines::text(line, 0, b"frames");
-    let at = lines::spaced(line, at, walk.listed as u64);
+    let at = lines::spaced(line, at, tally.listed as u64);
     let at = lines::text(line, at, b" bytes");
     let at = lines::spaced(line, at, capture.len() as u64);
     let at = lines::text(line, at, b" skipped");
-    lines::spaced(line, at, (capture.len() - walk.inside) as u64)
+    lines::spaced(line, at, (capture.len() - tally.inside) as u64)
 }

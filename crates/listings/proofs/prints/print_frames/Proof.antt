@@ -9,38 +9,38 @@ use lib.ListN.{length, length-map}
 use Rattle.rules.specs.Bytes.{total}
 use Rattle.stream_rules.specs.Rule.{Found}
 use Rattle.stream_rules.specs.Lister.{frames}
-use Rattle.listings.specs.Walks.{behindLast, walked, AllStarts, Onward}
-use Rattle.listings.specs.declared.table.Walk.{Walk}
+use Rattle.listings.specs.Tallies.{behindLast, tallied, allTallied, AllStarts, Onward}
+use Rattle.listings.specs.declared.table.Tally.{Tally}
 use Rattle.listings.proofs.prints.print_frames.Statement.{statement}
 use Rattle.listings.proofs.prints.print_frames.Tie as tie
 
 -- A listing that has come as far as it says, and one frame further.
-module _ (family : ℕ) (capture : List ℕ) (w : Walk) (reached : w ≡ walked family capture (w .listed)) where
+module _ (family : ℕ) (capture : List ℕ) (w : Tally) (reached : w ≡ tallied family capture (w .listed)) where
   same : w .family ≡ family
-  same = ap (λ (x : Walk). x .family) reached
+  same = ap (λ (x : Tally). x .family) reached
 
   onward : (starts : List ℕ) → AllStarts family capture starts → w .listed < length starts → Onward capture starts w
   onward starts s there = record {
     starts-all = subst (λ (k : ℕ). AllStarts k capture starts) (sym same) s;
-    reached = subst (λ (k : ℕ). w ≡ walked k capture (w .listed)) (sym same) reached;
+    reached = subst (λ (k : ℕ). w ≡ tallied k capture (w .listed)) (sym same) reached;
     there = there;
   }
 
-  further : (x : Walk) → x ≡ walked (w .family) capture (w .listed + 1) → x ≡ walked family capture (x .listed)
-  further x e = e ∙ (λ i. walked (same i) capture (sym (ap (λ (y : Walk). y .listed) e) i))
+  further : (x : Tally) → x ≡ tallied (w .family) capture (w .listed + 1) → x ≡ tallied family capture (x .listed)
+  further x e = e ∙ (λ i. tallied (same i) capture (sym (ap (λ (y : Tally). y .listed) e) i))
 
   all-listed : (starts : List ℕ) → AllStarts family capture starts → w .listed ≤ length starts → length starts ≤ w .listed
-      → w ≡ walked family capture (length (frames family capture))
+      → w ≡ allTallied family capture
   all-listed starts s p q =
       let n : w .listed ≡ length (frames family capture) =
       omega (arith, ap length (s .all), length-map (frames family capture) (λ (f : Found). f .start)) in
-      reached ∙ ap (walked family capture) n
+      reached ∙ ap (tallied family capture) n
 
 abbrev Inv-loop : tie.InvT-loop
-Inv-loop family capture starts walk₀ walk = (walk ≡ walked family capture (walk .listed)) × (walk .listed ≤ length starts)
+Inv-loop family capture starts tally₀ tally = (tally ≡ tallied family capture (tally .listed)) × (tally .listed ≤ length starts)
 
 abbrev μ-loop : tie.MeasureT-loop
-μ-loop family capture starts walk₀ walk = length starts - walk .listed
+μ-loop family capture starts tally₀ tally = length starts - tally .listed
 
 loop-holds : tie.Need-loop-holds Inv-loop μ-loop
 unfolding behindLast total
@@ -50,24 +50,24 @@ print-frame-requires : tie.Need-print-frame-requires Inv-loop μ-loop
 print-frame-requires c κs =
     let l = c .before .before in
     let s = l .before .before .before in
-    onward (s .args .family) (s .args .capture .now) (l .loop .walk) (l .loop .inv .0) (s .args .starts .now) (s .pre) (c .if1 .taken)
+    onward (s .args .family) (s .args .capture .now) (l .loop .tally) (l .loop .inv .0) (s .args .starts .now) (s .pre) (c .if1 .taken)
 
 loop-less : tie.Need-loop-less Inv-loop μ-loop
-loop-less c = omega (arith, ap (λ (w : Walk). w .listed) (c .print-frame .ensures), c .before .if1 .taken)
+loop-less c = omega (arith, ap (λ (w : Tally). w .listed) (c .print-frame .ensures), c .before .if1 .taken)
 
 loop-again : tie.Need-loop-again Inv-loop μ-loop
 loop-again c =
     let l = c .before .before .before in
     let a = l .before .before .before .args in (
-      further (a .family) (a .capture .now) (l .loop .walk) (l .loop .inv .0) _ (c .print-frame .ensures),
-      omega (arith, ap (λ (w : Walk). w .listed) (c .print-frame .ensures), c .before .if1 .taken),
+      further (a .family) (a .capture .now) (l .loop .tally) (l .loop .inv .0) _ (c .print-frame .ensures),
+      omega (arith, ap (λ (w : Tally). w .listed) (c .print-frame .ensures), c .before .if1 .taken),
     )
 
 returns : tie.Need-returns Inv-loop μ-loop
 returns c =
     let l = c .before .before in
     let s = l .before .before .before in
-    all-listed (s .args .family) (s .args .capture .now) (l .loop .walk) (l .loop .inv .0) (s .args .starts .now) (s .pre) (l .loop .inv .1) (c .if1 .left)
+    all-listed (s .args .family) (s .args .capture .now) (l .loop .tally) (l .loop .inv .0) (s .args .starts .now) (s .pre) (l .loop .inv .1) (c .if1 .left)
 
 pub print-frames-spec : {M : Type 1} → statement M
 print-frames-spec =

@@ -5,12 +5,11 @@ use Prim.Native.Nat.{ℕ}
 use mathlib.Core.Path.{_≡_, sym, ap, subst}
 use mathlib.Core.List.{List}
 use native.Mathlib.Omega.{arith}
-use lib.ListN.{length, length-take}
-use Rattle.stream_rules.specs.Lister.{frames}
+use lib.ListN.{length-take}
 use Rattle.stream_laws.proofs.Listing.{lists-fit}
-use Rattle.listings.specs.Walks.{walked}
-use Rattle.listings.specs.declared.table.Walk.{Walk}
-use Rattle.listings.proofs.Walks.{all-starts}
+use Rattle.listings.specs.Tallies.{allTallied}
+use Rattle.listings.specs.declared.table.Tally.{Tally}
+use Rattle.listings.proofs.Tallies.{all-starts}
 use borrow.Author.Needs.{needs}
 use Rattle.listings.proofs.prints.print_listing.Statement.{statement}
 use Rattle.listings.proofs.prints.print_listing.Tie as tie
@@ -39,11 +38,9 @@ slice-aggregate-print-frames c = omega (arith, array-share-prefix-starts (c .bef
 print-frames-requires : tie.Need-print-frames-requires
 print-frames-requires c κs = all-starts _ _ _ _ _ _ (c .before .before .before .before .before .before .list-frames .ensures) (c .before .before .before .n .given .1)
 
--- how far a family's listing has come, said of the family that it names
-own : (family : ℕ) (capture : List ℕ) (w : Walk) → w ≡ walked family capture (length (frames family capture))
-    → w ≡ walked (w .family) capture (length (frames (w .family) capture))
-own family capture w e =
-    subst (λ (k : ℕ). w ≡ walked k capture (length (frames k capture))) (sym (ap (λ (x : Walk). x .family) e)) e
+-- a tally of all frames of the family that it names
+own : (family : ℕ) (capture : List ℕ) (w : Tally) → w ≡ allTallied family capture → w ≡ allTallied (w .family) capture
+own family capture w e = subst (λ (k : ℕ). w ≡ allTallied k capture) (sym (ap (λ (x : Tally). x .family) e)) e
 
 print-last-requires : tie.Need-print-last-requires
 print-last-requires c κs = own _ _ _ (c .print-frames .ensures)

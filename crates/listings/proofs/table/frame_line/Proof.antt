@@ -1,22 +1,22 @@
 -- `listings::table::frame_line` meets its contract: what is laid are the numbers and the kind of the next frame, and the
--- listing has then come one frame further.
+-- tally is then one frame further.
 -- Assumes nothing.
 use Prim.Native.Nat.{ℕ, _+_, _-_}
 use mathlib.Core.Path.{_≡_, refl, ap, ap₂, _∙_}
-use mathlib.Core.List.{List, _∷_, _++_}
+use mathlib.Core.List.{List, _++_}
 use native.Mathlib.Omega.{arith}
 use lib.ListN.{length}
-use Rattle.rules.specs.Bytes.{ascii, part}
+use Rattle.rules.specs.Bytes.{part}
 use Rattle.rules.specs.Answers.{readOne}
 use Rattle.rules.specs.declared.Reading.the-variants.{Good}
 use Rattle.stream_rules.specs.Rule.{Found}
 use Rattle.stream_rules.specs.Lister.{frameFrom}
-use Rattle.lines.specs.Lines.{Types, decimalText, spacedTexts}
+use Rattle.lines.specs.Lines.{Types}
 use Rattle.lines.proofs.Typed.{_then_}
-use Rattle.listings.specs.Listing.{frameTexts}
+use Rattle.listings.specs.Listing.{numberTexts, frameTexts}
 use Rattle.listings.specs.Parts.{partTexts}
-use Rattle.listings.specs.declared.table.Walk.{Walk}
-use Rattle.listings.proofs.Walks.{Next, next}
+use Rattle.listings.specs.declared.table.Tally.{Tally}
+use Rattle.listings.proofs.Tallies.{Next, next}
 use borrow.Author.Needs.{needs}
 use Rattle.listings.proofs.table.frame_line.Statement.{statement}
 use Rattle.listings.proofs.table.frame_line.Tie as tie
@@ -24,13 +24,13 @@ use Rattle.listings.proofs.table.frame_line.Tie as tie
 -- what shows a frame's numbers and its bytes shows the frame
 shown : (family start skipped : ℕ) (bytes : List ℕ) (f : Found) {line after : List ℕ} {place : ℕ}
     → start ≡ f .start → length bytes ≡ f .length → skipped ≡ f .skipped → readOne family bytes ≡ Good (f .frame)
-    → Types (decimalText start ∷ spacedTexts (length bytes) ++ spacedTexts skipped ++ ascii " " ∷ partTexts family bytes) line 0 after place
+    → Types (numberTexts start (length bytes) skipped ++ partTexts family bytes) line 0 after place
     → Types (frameTexts f) line 0 after place
 shown family start skipped bytes f a b c d typed = rw (a, b, c, d) at typed
 
 -- The next frame, where the function begins; and the bytes that are given for it.
 module _ (s : tie.Start) where
-  here : Next (s .args .capture .now) (s .args .starts .now) (s .args .walk)
+  here : Next (s .args .capture .now) (s .args .starts .now) (s .args .tally)
   here = next _ _ _ (s .pre)
 
 module _ (c : tie.After-next-frame) where
@@ -43,7 +43,7 @@ module _ (c : tie.After-next-frame) where
   its-bytes : bytes ≡ part (here begin .frame .start) (here begin .frame .length) (begin .args .capture .now)
   its-bytes =
       c .next-frame .ensures .content
-      ∙ ap (frameFrom (begin .args .walk .family) (begin .args .capture .now)) (here begin .starts-here)
+      ∙ ap (frameFrom (begin .args .tally .family) (begin .args .capture .now)) (here begin .starts-here)
       ∙ here begin .given
 
   its-length : length bytes ≡ here begin .frame .length
@@ -56,7 +56,7 @@ shared-slice-read-start : tie.Need-shared-slice-read-start
 shared-slice-read-start c = search needs
 
 cast-start : tie.Need-cast-start
-cast-start c = omega (arith, c .shared-slice-known3 .given (c .before .before .before .before .args .walk .listed))
+cast-start c = omega (arith, c .shared-slice-known3 .given (c .before .before .before .before .args .tally .listed))
 
 next-frame-requires : tie.Need-next-frame-requires
 next-frame-requires c κs = search needs
@@ -97,19 +97,20 @@ returns c =
     let n = columns .before .before .before in
     let a = begin n .args in
     let h = here (begin n) in
-    let f = h .frame in (
-      rw (h .line)
-          (shown (a .walk .family) _ _ (bytes n) f
+    let f = h .frame in
+    record {
+      types = rw (h .line)
+          (shown (a .tally .family) _ _ (bytes n) f
           (h .starts-here)
           (its-length n)
           (omega (arith, h .starts-here, h .place))
-          (ap (readOne (a .walk .family)) (its-bytes n) ∙ h .stands .read)
-          (columns .numbers .ensures then kind .part-kind .ensures)),
-      ap₂
-          (λ (end inside : ℕ). record { family = a .walk .family; listed = a .walk .listed + 1; end = end; inside = inside })
+          (ap (readOne (a .tally .family)) (its-bytes n) ∙ h .stands .read)
+          (columns .numbers .ensures then kind .part-kind .ensures));
+      further = ap₂
+          (λ (end inside : ℕ). record { family = a .tally .family; listed = a .tally .listed + 1; end = end; inside = inside })
           (omega (arith, h .starts-here, its-length n, h .end))
-          (omega (arith, its-length n, h .counts)),
-    )
+          (omega (arith, its-length n, h .counts));
+    }
 
 pub frame-line-spec : {M : Type 1} → statement M
 frame-line-spec =

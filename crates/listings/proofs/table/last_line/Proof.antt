@@ -10,8 +10,8 @@ use Rattle.rules.specs.Bytes.{ascii}
 use Rattle.lines.specs.Lines.{Types, spacedTexts}
 use Rattle.lines.proofs.Typed.{_then_}
 use Rattle.listings.specs.Listing.{lastTexts}
-use Rattle.listings.specs.declared.table.Walk.{Walk}
-use Rattle.listings.proofs.Walks.{Told, all-told}
+use Rattle.listings.specs.declared.table.Tally.{Tally}
+use Rattle.listings.proofs.Tallies.{Told, all-told}
 use borrow.Author.Needs.{needs}
 use Rattle.listings.proofs.table.last_line.Statement.{statement}
 use Rattle.listings.proofs.table.last_line.Tie as tie
@@ -43,7 +43,7 @@ text-requires-3 c κs = search needs
 sub-spaced : tie.Need-sub-spaced
 sub-spaced c =
     let start = c .before .before .before .before .before .before .before .before .before .before .before .before .before .before .before .before .before .before .before .before .before .before .before .before .before .before .before in
-    let t = all-told _ _ (start .args .walk) (start .pre) in
+    let t = all-told _ _ (start .args .tally) (start .pre) in
     omega (arith, t .bytes, t .within)
 
 spaced-requires-3 : tie.Need-spaced-requires-3
@@ -53,7 +53,7 @@ same-length : tie.Need-same-length
 same-length c = search needs
 
 -- what is told is what the last line tells
-told : (family : ℕ) (capture : List ℕ) (w : Walk) {line after : List ℕ} {place : ℕ} → Told family capture w
+told : (family : ℕ) (capture : List ℕ) (w : Tally) {line after : List ℕ} {place : ℕ} → Told family capture w
     → Types (ascii "frames" ∷ spacedTexts (w .listed) ++ ascii " bytes" ∷ spacedTexts (length capture) ++ ascii " skipped" ∷ spacedTexts (length capture - w .inside)) line 0 after place
     → Types (lastTexts family capture) line 0 after place
 told family capture w t typed = rw (t .all, t .bytes) at typed
@@ -67,7 +67,7 @@ returns c =
     let frames = word-2 .before .before .before .before .before in
     let word-1 = frames .before .before .before .before in
     let start = word-1 .before .before .before .before .before in
-    told (start .args .walk .family) (start .args .capture .now) (start .args .walk) (all-told _ _ (start .args .walk) (start .pre))
+    told (start .args .tally .family) (start .args .capture .now) (start .args .tally) (all-told _ _ (start .args .tally) (start .pre))
     (word-1 .text .ensures then frames .spaced .ensures then word-2 .text2 .ensures then bytes .spaced2 .ensures then word-3 .text3 .ensures then skipped .spaced3 .ensures)
 
 pub last-line-spec : {M : Type 1} → statement M

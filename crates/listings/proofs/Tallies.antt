@@ -18,9 +18,9 @@ use Rattle.stream_rules.specs.Lister.{frames, startsOf, longestCapture, tooLong
 use Rattle.stream_rules.specs.declared.Listed.{Listed}
 use Rattle.stream_rules.specs.declared.Listed.the-variants.{Count, Refused}
 use Rattle.search.proofs.Walk.{left}
-use Rattle.listings.specs.Listing.{frameTexts, frameLines, inside}
-use Rattle.listings.specs.Walks.{behindLast, walked, AllStarts, Onward}
-use Rattle.listings.specs.declared.table.Walk.{Walk}
+use Rattle.listings.specs.Listing.{frameTexts, frameLine, inside}
+use Rattle.listings.specs.Tallies.{behindLast, tallied, allTallied, AllStarts, Onward}
+use Rattle.listings.specs.declared.table.Tally.{Tally}
 use Rattle.listings.proofs.Frames.{First, first, Stands, stands, given, others, Between, between, told, end-of-more, inside-of-more}
 
 -- There is an n-th frame.
@@ -35,10 +35,10 @@ nth fs n p =
     record { frame = getD fs n any; behind = drop (n + 1) fs; splits = rw (add-one n) (drop-cons fs n any p) }
 
 -- The next frame: where it starts and ends, its line and its bytes; and how far a listing has come with it.
-pub record Next (capture starts : List ℕ) (w : Walk) : Type 0 where
+pub record Next (capture starts : List ℕ) (w : Tally) : Type 0 where
   pub frame : Found
   pub starts-here : getD starts (w .listed) 0 ≡ frame .start
-  pub line : getD (frameLines (w .family) capture) (w .listed) [] ≡ frameTexts frame
+  pub line : frameLine (w .family) capture (w .listed) ≡ frameTexts frame
   pub place : frame .start ≡ w .end + frame .skipped
   pub stands : Stands (w .family) capture (frame .start) (frame .length) (frame .frame)
   pub given : frameFrom (w .family) capture (frame .start) ≡ part (frame .start) (frame .length) capture
@@ -47,13 +47,13 @@ pub record Next (capture starts : List ℕ) (w : Walk) : Type 0 where
   pub end : behindLast 0 (take (w .listed + 1) (frames (w .family) capture)) ≡ frame .start + frame .length
   pub counts : inside (take (w .listed + 1) (frames (w .family) capture)) ≡ w .inside + frame .length
 
-pub next : (capture starts : List ℕ) (w : Walk) → Onward capture starts w → Next capture starts w
+pub next : (capture starts : List ℕ) (w : Tally) → Onward capture starts w → Next capture starts w
 next capture starts w on =
     let family = w .family in
     let n = w .listed in
     let fs = frames family capture in
-    let ended : w .end ≡ behindLast 0 (take n fs) = ap (λ (x : Walk). x .end) (on .reached) in
-    let bytes : w .inside ≡ inside (take n fs) = ap (λ (x : Walk). x .inside) (on .reached) in
+    let ended : w .end ≡ behindLast 0 (take n fs) = ap (λ (x : Tally). x .end) (on .reached) in
+    let bytes : w .inside ≡ inside (take n fs) = ap (λ (x : Tally). x .inside) (on .reached) in
     let here = nth fs n (omega (arith, on .there, ap length (on .starts-all .all), length-map fs (λ (f : Found). f .start))) in
     let f = here .frame in
     let x = first family capture (behindLast 0 (take n fs)) f (here .behind) (others family capture n 0 ∙ here .splits) in
@@ -72,18 +72,18 @@ next capture starts w on =
     }
 
 -- Where all frames are listed, the counts are those of the last line.
-pub record Told (family : ℕ) (capture : List ℕ) (w : Walk) : Type 0 where
+pub record Told (family : ℕ) (capture : List ℕ) (w : Tally) : Type 0 where
   pub all : w .listed ≡ length (frames family capture)
   pub bytes : w .inside ≡ inside (frames family capture)
   pub within : inside (frames family capture) ≤ length capture
 
-pub all-told : (family : ℕ) (capture : List ℕ) (w : Walk) → w ≡ walked family capture (length (frames family capture)) → Told family capture w
+pub all-told : (family : ℕ) (capture : List ℕ) (w : Tally) → w ≡ allTallied family capture → Told family capture w
 all-told family capture w e =
     let fs = frames family capture in
     let b = between family capture (length fs) 0 (omega arith) in
     record {
-      all = ap (λ (x : Walk). x .listed) e;
-      bytes = ap (λ (x : Walk). x .inside) e ∙ ap inside (take-length fs);
+      all = ap (λ (x : Tally). x .listed) e;
+      bytes = ap (λ (x : Tally). x .inside) e ∙ ap inside (take-length fs);
       within = omega (arith, b .apart, b .within, ap inside (take-length fs));
     }
 
