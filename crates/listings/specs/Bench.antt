@@ -1,4 +1,5 @@
--- Whole outputs of the program `listing`, by the definitions: case 1 of the bench sheet, case 11, messages, and the refusals.
+-- Whole outputs of the program `listing`, by the definitions: cases 1 and 11 of the bench sheet, messages, and the
+-- refusals.
 use Prim.Native.Nat.{ℕ}
 use mathlib.Core.Path.{_≡_}
 use mathlib.Core.Bool.{true, false}
@@ -19,5 +20,7 @@ pub record ListingSheet : Type 0 where
       ≡ ascii "start length skipped kind\n1 9 1 PWF\n10 5 0 PWF\n15 7 0 BT\n22 4 0 FT\nframes 4 bytes 26 skipped 1\n"
   -- A missing or bad first byte prints refusal 1 only, and a long capture 7.
   pub no-digit : output [] ≡ ascii "refused 1\n"
-  pub bad-family : (family : ℕ) (capture : List ℕ) → isFamily family ≡ false → listing family capture ≡ ascii "refused 1\n"
-  pub long-capture : (family : ℕ) (capture : List ℕ) → isFamily family ≡ true → fits capture ≡ false → listing family capture ≡ ascii "refused 7\n"
+  pub bad-family : (family : ℕ) (capture : List ℕ) → isFamily family ≡ false
+      → listing family capture ≡ ascii "refused 1\n"
+  pub long-capture : (family : ℕ) (capture : List ℕ) → isFamily family ≡ true → fits capture ≡ false
+      → listing family capture ≡ ascii "refused 7\n"

@@ -1,4 +1,4 @@
--- What a listing says of a frame, the listing of a capture, and how far one has come; and what the bench sheet says of it.
+-- What a listing says of a frame, the listing of a capture, how far one has come, and the listings of the bench sheet.
 pub mod Kinds
 pub mod Parts
 pub mod Listing

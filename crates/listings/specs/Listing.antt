@@ -1,4 +1,5 @@
--- The listing of a capture, over the frames that demand 3's rule finds in it. A line is some texts, one behind the other.
+-- The listing of a capture, over the frames that demand 3's rule finds in it. A line is some texts, one behind the
+-- other.
 use Prim.Native.Nat.{ℕ, _-_}
 use Prim.Native.Char.{code}
 use mathlib.Core.Bool.{cond, not}

@@ -8,7 +8,7 @@ use Rattle.rules.specs.Answers.{isFamily}
 use Rattle.stream_rules.specs.Rule.{Found}
 use Rattle.stream_rules.specs.Lister.{frames, startsOf, fits}
 use Rattle.lines.specs.Lines.{Types}
-use Rattle.listings.specs.Listing.{frameLine, inside}
+use Rattle.listings.specs.Listing.{frameLine, inside, lastTexts}
 use Rattle.listings.specs.declared.table.Tally.{Tally}
 use Rattle.listings.specs.declared.table.Laid.{Laid}
 
@@ -45,3 +45,7 @@ pub record Onward (capture starts : List ℕ) (t : Tally) : Type 0 where
 pub record LaysNext (capture : List ℕ) (t : Tally) (line after : List ℕ) (r : Laid) : Type 0 where
   pub types : Types (frameLine (t .family) capture (t .listed)) line 0 after (r .at)
   pub further : r .tally ≡ tallied (t .family) capture (t .listed + 1)
+
+-- The last line is laid.
+abbrev pub LaysLast : List ℕ → Tally → List ℕ → List ℕ → ℕ → Type 0
+LaysLast capture t line after place = Types (lastTexts (t .family) capture) line 0 after place

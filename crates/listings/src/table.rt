@@ -1,6 +1,6 @@
-// The lines of a listing: a heading; for each frame its start, its length, the bytes skipped before it and its kind; and
-// last how many frames and bytes there are, and how many bytes are in no frame. Each function lays text into a lent line
-// and gives the place behind it.
+// The lines of a listing: a heading; for each frame its start, its length, the bytes skipped before it
+// and its kind; and last how many frames and bytes there are, and how many bytes are in no frame. Each
+// function lays text into a lent line and gives the place behind it.
 use crate::kinds;
 use captures::next_frame;
 use records::fields_of;
@@ -8,11 +8,11 @@ use rules::Reading;
 ghost use mathlib.Core.Path.{_≡_};
 ghost use Rattle.lines.specs.Lines.{Types};
 ghost use Rattle.listings.specs.Parts.{partTexts};
-ghost use Rattle.listings.specs.Listing.{headingTexts, numberTexts, lastTexts};
-ghost use Rattle.listings.specs.Tallies.{allTallied, Onward, LaysNext};
+ghost use Rattle.listings.specs.Listing.{headingTexts, numberTexts};
+ghost use Rattle.listings.specs.Tallies.{allTallied, Onward, LaysNext, LaysLast};
 
-// How far a listing has come: how many frames of the family are listed, where the last of them ends, and how many bytes lie
-// in them.
+// How far a listing has come: how many frames of the family are listed, where the last of them ends, and
+// how many bytes lie in them.
 pub struct Tally {
     pub family: u8,
     pub listed: usize,
@@ -82,7 +82,7 @@ pub fn part_kind(line: &mut [u8], at: usize, family: u8, frame: &[u8]) -> usize
 // The last line, where all frames are listed.
 pub(crate) fn last_line(line: &mut [u8], capture: &[u8], tally: Tally) -> usize
     requires { ⌜ tally ≡ allTallied (tally .family) (now capture) ⌝ }
-    ensures { λ r. ⌜ Types (lastTexts (tally .family) (now (capture .entry))) (now (line .entry)) 0 (now (line .exit)) r ⌝ }
+    ensures { λ r. ⌜ LaysLast (now (capture .entry)) tally (now (line .entry)) (now (line .exit)) r ⌝ }
 {
     let at = lines::text(line, 0, b"frames");
     let at = lines::spaced(line, at, tally.listed as u64);

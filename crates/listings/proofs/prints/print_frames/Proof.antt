@@ -15,24 +15,24 @@ use Rattle.listings.proofs.prints.print_frames.Statement.{statement}
 use Rattle.listings.proofs.prints.print_frames.Tie as tie
 
 -- A listing that has come as far as it says, and one frame further.
-module _ (family : ℕ) (capture : List ℕ) (w : Tally) (reached : w ≡ tallied family capture (w .listed)) where
-  same : w .family ≡ family
+module _ (family : ℕ) (capture : List ℕ) (t : Tally) (reached : t ≡ tallied family capture (t .listed)) where
+  same : t .family ≡ family
   same = ap (λ (x : Tally). x .family) reached
 
-  onward : (starts : List ℕ) → AllStarts family capture starts → w .listed < length starts → Onward capture starts w
+  onward : (starts : List ℕ) → AllStarts family capture starts → t .listed < length starts → Onward capture starts t
   onward starts s there = record {
     starts-all = subst (λ (k : ℕ). AllStarts k capture starts) (sym same) s;
-    reached = subst (λ (k : ℕ). w ≡ tallied k capture (w .listed)) (sym same) reached;
+    reached = subst (λ (k : ℕ). t ≡ tallied k capture (t .listed)) (sym same) reached;
     there = there;
   }
 
-  further : (x : Tally) → x ≡ tallied (w .family) capture (w .listed + 1) → x ≡ tallied family capture (x .listed)
+  further : (x : Tally) → x ≡ tallied (t .family) capture (t .listed + 1) → x ≡ tallied family capture (x .listed)
   further x e = e ∙ (λ i. tallied (same i) capture (sym (ap (λ (y : Tally). y .listed) e) i))
 
-  all-listed : (starts : List ℕ) → AllStarts family capture starts → w .listed ≤ length starts → length starts ≤ w .listed
-      → w ≡ allTallied family capture
+  all-listed : (starts : List ℕ) → AllStarts family capture starts → t .listed ≤ length starts → length starts ≤ t .listed
+      → t ≡ allTallied family capture
   all-listed starts s p q =
-      let n : w .listed ≡ length (frames family capture) =
+      let n : t .listed ≡ length (frames family capture) =
       omega (arith, ap length (s .all), length-map (frames family capture) (λ (f : Found). f .start)) in
       reached ∙ ap (tallied family capture) n
 
@@ -53,14 +53,14 @@ print-frame-requires c κs =
     onward (s .args .family) (s .args .capture .now) (l .loop .tally) (l .loop .inv .0) (s .args .starts .now) (s .pre) (c .if1 .taken)
 
 loop-less : tie.Need-loop-less Inv-loop μ-loop
-loop-less c = omega (arith, ap (λ (w : Tally). w .listed) (c .print-frame .ensures), c .before .if1 .taken)
+loop-less c = omega (arith, ap (λ (t : Tally). t .listed) (c .print-frame .ensures), c .before .if1 .taken)
 
 loop-again : tie.Need-loop-again Inv-loop μ-loop
 loop-again c =
     let l = c .before .before .before in
     let a = l .before .before .before .args in (
       further (a .family) (a .capture .now) (l .loop .tally) (l .loop .inv .0) _ (c .print-frame .ensures),
-      omega (arith, ap (λ (w : Tally). w .listed) (c .print-frame .ensures), c .before .if1 .taken),
+      omega (arith, ap (λ (t : Tally). t .listed) (c .print-frame .ensures), c .before .if1 .taken),
     )
 
 returns : tie.Need-returns Inv-loop μ-loop

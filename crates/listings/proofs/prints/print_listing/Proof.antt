@@ -9,7 +9,7 @@ use lib.ListN.{length-take}
 use Rattle.stream_laws.proofs.Listing.{lists-fit}
 use Rattle.listings.specs.Tallies.{allTallied}
 use Rattle.listings.specs.declared.table.Tally.{Tally}
-use Rattle.listings.proofs.Tallies.{all-starts}
+use Rattle.listings.proofs.Answers.{all-starts}
 use borrow.Author.Needs.{needs}
 use Rattle.listings.proofs.prints.print_listing.Statement.{statement}
 use Rattle.listings.proofs.prints.print_listing.Tie as tie
@@ -30,17 +30,23 @@ print-heading-requires : tie.Need-print-heading-requires
 print-heading-requires c κs = search needs
 
 array-share-prefix-starts : tie.Need-array-share-prefix-starts
-array-share-prefix-starts c = lists-fit _ _ _ _ _ _ (c .before .before .before .before .before .list-frames .ensures) (c .before .before .n .given .1)
+array-share-prefix-starts c =
+    let n = c .before .before in
+    lists-fit _ _ _ _ _ _ (n .before .before .before .list-frames .ensures) (n .n .given .1)
 
 slice-aggregate-print-frames : tie.Need-slice-aggregate-print-frames
-slice-aggregate-print-frames c = omega (arith, array-share-prefix-starts (c .before), length-take (c .before .before .before .n .given .0 .0) (c .before .before .before .before .before .before .list-frames .last .1 .1 .0))
+slice-aggregate-print-frames c =
+    let n = c .before .before .before in
+    omega (arith, array-share-prefix-starts (c .before), length-take (n .n .given .0 .0) (n .before .before .before .list-frames .last .1 .1 .0))
 
 print-frames-requires : tie.Need-print-frames-requires
-print-frames-requires c κs = all-starts _ _ _ _ _ _ (c .before .before .before .before .before .before .list-frames .ensures) (c .before .before .before .n .given .1)
+print-frames-requires c κs =
+    let n = c .before .before .before in
+    all-starts _ _ _ _ _ _ (n .before .before .before .list-frames .ensures) (n .n .given .1)
 
 -- a tally of all frames of the family that it names
-own : (family : ℕ) (capture : List ℕ) (w : Tally) → w ≡ allTallied family capture → w ≡ allTallied (w .family) capture
-own family capture w e = subst (λ (k : ℕ). w ≡ allTallied k capture) (sym (ap (λ (x : Tally). x .family) e)) e
+own : (family : ℕ) (capture : List ℕ) (t : Tally) → t ≡ allTallied family capture → t ≡ allTallied (t .family) capture
+own family capture t e = subst (λ (k : ℕ). t ≡ allTallied k capture) (sym (ap (λ (x : Tally). x .family) e)) e
 
 print-last-requires : tie.Need-print-last-requires
 print-last-requires c κs = own _ _ _ (c .print-frames .ensures)

@@ -2,7 +2,7 @@
 -- tally is then one frame further.
 -- Assumes nothing.
 use Prim.Native.Nat.{ℕ, _+_, _-_}
-use mathlib.Core.Path.{_≡_, refl, ap, ap₂, _∙_}
+use mathlib.Core.Path.{_≡_, ap, ap₂, _∙_}
 use mathlib.Core.List.{List, _++_}
 use native.Mathlib.Omega.{arith}
 use lib.ListN.{length}
@@ -15,7 +15,6 @@ use Rattle.lines.specs.Lines.{Types}
 use Rattle.lines.proofs.Typed.{_then_}
 use Rattle.listings.specs.Listing.{numberTexts, frameTexts}
 use Rattle.listings.specs.Parts.{partTexts}
-use Rattle.listings.specs.declared.table.Tally.{Tally}
 use Rattle.listings.proofs.Tallies.{Next, next}
 use borrow.Author.Needs.{needs}
 use Rattle.listings.proofs.table.frame_line.Statement.{statement}

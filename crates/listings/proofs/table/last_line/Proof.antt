@@ -2,7 +2,6 @@
 -- the counts are those of the rule's frames.
 -- Assumes nothing.
 use Prim.Native.Nat.{ℕ, _-_}
-use mathlib.Core.Path.{_≡_}
 use mathlib.Core.List.{List, _∷_, _++_}
 use native.Mathlib.Omega.{arith}
 use lib.ListN.{length}
@@ -15,6 +14,32 @@ use Rattle.listings.proofs.Tallies.{Told, all-told}
 use borrow.Author.Needs.{needs}
 use Rattle.listings.proofs.table.last_line.Statement.{statement}
 use Rattle.listings.proofs.table.last_line.Tie as tie
+
+-- what is told is what the last line tells
+told : (family : ℕ) (capture : List ℕ) (t : Tally) {line after : List ℕ} {place : ℕ} → Told family capture t
+    → Types (ascii "frames" ∷ spacedTexts (t .listed) ++ ascii " bytes" ∷ spacedTexts (length capture) ++ ascii " skipped" ∷ spacedTexts (length capture - t .inside)) line 0 after place
+    → Types (lastTexts family capture) line 0 after place
+told family capture t is typed = rw (is .all, is .bytes) at typed
+
+-- the words and numbers before the last, and what is told of all frames
+module _ (word-3 : tie.After-text3) where
+  abbrev bytes : tie.After-spaced2
+  bytes = word-3 .before .before .before .before .before
+
+  abbrev word-2 : tie.After-text2
+  word-2 = bytes .before .before .before .before
+
+  abbrev many : tie.After-spaced
+  many = word-2 .before .before .before .before .before
+
+  abbrev word-1 : tie.After-text
+  word-1 = many .before .before .before .before
+
+  abbrev begin : tie.Start
+  begin = word-1 .before .before .before .before .before
+
+  is-told : Told (begin .args .tally .family) (begin .args .capture .now) (begin .args .tally)
+  is-told = all-told _ _ (begin .args .tally) (begin .pre)
 
 slice-aggregate-text : tie.Need-slice-aggregate-text
 slice-aggregate-text c = search needs
@@ -42,9 +67,8 @@ text-requires-3 c κs = search needs
 
 sub-spaced : tie.Need-sub-spaced
 sub-spaced c =
-    let start = c .before .before .before .before .before .before .before .before .before .before .before .before .before .before .before .before .before .before .before .before .before .before .before .before .before .before .before in
-    let t = all-told _ _ (start .args .tally) (start .pre) in
-    omega (arith, t .bytes, t .within)
+    let is = is-told (c .before .before .before .before) in
+    omega (arith, is .bytes, is .within)
 
 spaced-requires-3 : tie.Need-spaced-requires-3
 spaced-requires-3 c κs = search needs
@@ -52,23 +76,17 @@ spaced-requires-3 c κs = search needs
 same-length : tie.Need-same-length
 same-length c = search needs
 
--- what is told is what the last line tells
-told : (family : ℕ) (capture : List ℕ) (w : Tally) {line after : List ℕ} {place : ℕ} → Told family capture w
-    → Types (ascii "frames" ∷ spacedTexts (w .listed) ++ ascii " bytes" ∷ spacedTexts (length capture) ++ ascii " skipped" ∷ spacedTexts (length capture - w .inside)) line 0 after place
-    → Types (lastTexts family capture) line 0 after place
-told family capture w t typed = rw (t .all, t .bytes) at typed
-
 returns : tie.Need-returns
 returns c =
     let skipped = c .before .before in
-    let word-3 = skipped .before .before .before .before .before in
-    let bytes = word-3 .before .before .before .before .before in
-    let word-2 = bytes .before .before .before .before in
-    let frames = word-2 .before .before .before .before .before in
-    let word-1 = frames .before .before .before .before in
-    let start = word-1 .before .before .before .before .before in
-    told (start .args .tally .family) (start .args .capture .now) (start .args .tally) (all-told _ _ (start .args .tally) (start .pre))
-    (word-1 .text .ensures then frames .spaced .ensures then word-2 .text2 .ensures then bytes .spaced2 .ensures then word-3 .text3 .ensures then skipped .spaced3 .ensures)
+    let w = skipped .before .before .before .before .before in
+    told _ _ _ (is-told w)
+    (word-1 w .text .ensures
+    then many w .spaced .ensures
+    then word-2 w .text2 .ensures
+    then bytes w .spaced2 .ensures
+    then w .text3 .ensures
+    then skipped .spaced3 .ensures)
 
 pub last-line-spec : {M : Type 1} → statement M
 last-line-spec =
