@@ -18,10 +18,10 @@ use Rattle.listings.specs.declared.table.Tally.{Tally}
 use Rattle.listings.proofs.Frames.{first, Stands, stands, given, others, between, told, end-of-more, inside-of-more}
 
 -- There is an n-th frame.
-pub record Nth (fs : List Found) (n : ℕ) : Type 0 where
-  pub frame : Found
-  pub behind : List Found
-  pub splits : drop n fs ≡ frame ∷ behind
+record Nth (fs : List Found) (n : ℕ) : Type 0 where
+  frame : Found
+  behind : List Found
+  splits : drop n fs ≡ frame ∷ behind
 
 nth : (fs : List Found) (n : ℕ) → n < length fs → Nth fs n
 nth fs n p =
