@@ -55,7 +55,7 @@ room family capture short =
     let each : shortestFrame * length fs ≤ shortest family * length fs = mul-le-mul-right (length fs) (shortest-of-all family) in
     omega (arith, each, few-frames family capture, leb-true (length capture) longestCapture short)
 
-abbrev linesTold : ℕ → List ℕ → Listed → List (List (List ℕ))
+abbrev pub linesTold : ℕ → List ℕ → Listed → List (List (List ℕ))
 linesTold family capture (Count n) = headingTexts ∷ frameLines family capture ++ lastTexts family capture ∷ []
 linesTold family capture (Refused n) = refusedTexts n ∷ []
 

@@ -48,7 +48,7 @@ listingLines family capture =
     (cond (not (fits capture)) (refusedTexts tooLong ∷ [])
     (headingTexts ∷ frameLines family capture ++ lastTexts family capture ∷ []))
 
--- a line as it is printed, with a line feed behind it
+-- texts one behind the other; and a line as it is printed, with a line feed behind it
 abbrev pub joined : List (List ℕ) → List ℕ
 joined texts = flatMap (λ (text : List ℕ). text) texts
 
@@ -59,11 +59,12 @@ printed texts = joined texts ++ ascii "\n"
 abbrev pub listing : ℕ → List ℕ → List ℕ
 listing family capture = flatMap printed (listingLines family capture)
 
--- What the program's input is: the family's digit, and the capture. Without a digit there is no family.
+-- The program's whole output for its input, which is the family's digit and the capture. Without a digit there is no
+-- family.
 abbrev pub output : List ℕ → List ℕ
 output [] = printed (refusedTexts noFamily)
 output (digit ∷ capture) = listing (digit - code "0") capture
 
--- A line has room for so many bytes.
+-- so many bytes has a line that is lent
 abbrev pub lineRoom : ℕ
 lineRoom = 128
