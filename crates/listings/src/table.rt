@@ -1,64 +1,68 @@
-// The listing of a capture: where each frame starts, its length, the bytes skipped before it, and its
-// kind; then how many frames and bytes there are, and how many bytes are in no frame.
+// The lines of a listing: a heading; for each frame its start, its length, the bytes skipped before it
+// and its kind; and last how many frames and bytes there are, and how many bytes are in no frame. Each
+// function lays text into a lent line and gives the place behind it.
 use crate::kinds;
 use captures::next_frame;
-use lister::list_frames;
 use records::fields_of;
 use rules::Reading;
-use std::num::wrapping_add_usize;
-use std::num::wrapping_sub_usize;
-use stream_rules::LONGEST_LIST;
-use stream_rules::Listed;
 ghost use mathlib.Core.Path.{_≡_};
-ghost use lib.ListN.{length};
-ghost use Rattle.stream_rules.specs.Lister.{longestList};
 ghost use Rattle.lines.specs.Lines.{Types};
 ghost use Rattle.listings.specs.Parts.{partTexts};
+ghost use Rattle.listings.specs.Listing.{headingTexts, numberTexts};
+ghost use Rattle.listings.specs.Tallies.{allTallied, Onward, LaysNext, LaysLast};
 
-// Room for as many starts as a capture can have frames.
-fn starts_buffer() -> [u32; LONGEST_LIST]
-    ensures { λ r. ⌜ longestList ≡ length r ⌝ }
+// How far a listing has come: how many frames of the family are listed, where the last of them ends, and
+// how many bytes lie in them.
+pub struct Tally {
+    pub family: u8,
+    pub listed: usize,
+    pub end: usize,
+    pub inside: usize,
+}
+
+// A frame's line that is laid: the place behind it, and the tally with this frame.
+pub struct Laid {
+    pub at: usize,
+    pub tally: Tally,
+}
+
+// The names of the columns.
+pub(crate) fn heading(line: &mut [u8]) -> usize
+    ensures { λ r. ⌜ Types headingTexts (now (line .entry)) 0 (now (line .exit)) r ⌝ }
 {
-    [0; LONGEST_LIST]
+    lines::text(line, 0, b"start length skipped kind")
 }
 
-// A line for each frame of a capture and one for the whole, or the refusal alone.
-pub fn print_listing(family: u8, capture: &[u8]) {
-    let mut starts = starts_buffer();
-    match list_frames(family, capture, &mut starts) {
-        Listed::Count(n) => {
-            lines::print_text(b"start length skipped kind");
-            let inside = print_frames(family, capture, &starts[..n]);
-            print_sum(n, capture.len(), wrapping_sub_usize(capture.len(), inside));
-        }
-        Listed::Refused(n) => lines::print_refused(n),
+// The line of the first frame that is not listed yet.
+pub(crate) fn frame_line(line: &mut [u8], capture: &[u8], starts: &[u32], tally: Tally) -> Laid
+    requires { ⌜ Onward (now capture) (now starts) tally ⌝ }
+    ensures { λ r. ⌜ LaysNext (now (capture .entry)) tally (now (line .entry)) (now (line .exit)) r ⌝ }
+{
+    let i = tally.listed;
+    let start = starts[i] as usize;
+    let frame = next_frame(tally.family, capture, start);
+    let at = numbers(line, start, frame.len(), start - tally.end);
+    let place = part_kind(line, at, tally.family, frame);
+    let further = Tally {
+        family: tally.family,
+        listed: i + 1,
+        end: start + frame.len(),
+        inside: tally.inside + frame.len(),
+    };
+    Laid {
+        at: place,
+        tally: further,
     }
 }
 
-// A line for each frame; gives how many bytes lie in frames.
-fn print_frames(family: u8, capture: &[u8], starts: &[u32]) -> usize {
-    let mut i = 0;
-    let mut end = 0;
-    let mut inside = 0;
-    while i < starts.len() {
-        let start = starts[i] as usize;
-        let frame = next_frame(family, capture, start);
-        print_frame(family, frame, start, wrapping_sub_usize(start, end));
-        end = wrapping_add_usize(start, frame.len());
-        inside = wrapping_add_usize(inside, frame.len());
-        i += 1;
-    }
-    inside
-}
-
-fn print_frame(family: u8, frame: &[u8], start: usize, skipped: usize) {
-    let mut line = [0u8; 128];
-    let at = lines::number(&mut line, 0, start as u64);
-    let at = lines::spaced(&mut line, at, frame.len() as u64);
-    let at = lines::spaced(&mut line, at, skipped as u64);
-    let at = lines::text(&mut line, at, b" ");
-    let end = part_kind(&mut line, at, family, frame);
-    lines::print(&mut line, end);
+// The columns before the kind.
+fn numbers(line: &mut [u8], start: usize, long: usize, skipped: usize) -> usize
+    ensures { λ r. ⌜ Types (numberTexts start long skipped) (now (line .entry)) 0 (now (line .exit)) r ⌝ }
+{
+    let at = lines::number(line, 0, start as u64);
+    let at = lines::spaced(line, at, long as u64);
+    let at = lines::spaced(line, at, skipped as u64);
+    lines::text(line, at, b" ")
 }
 
 // What kind of frame a part of a capture is, or the refusal of a part that is none.
@@ -75,13 +79,15 @@ pub fn part_kind(line: &mut [u8], at: usize, family: u8, frame: &[u8]) -> usize
     }
 }
 
-fn print_sum(frames: usize, bytes: usize, skipped: usize) {
-    let mut line = [0u8; 128];
-    let at = lines::text(&mut line, 0, b"frames");
-    let at = lines::spaced(&mut line, at, frames as u64);
-    let at = lines::text(&mut line, at, b" bytes");
-    let at = lines::spaced(&mut line, at, bytes as u64);
-    let at = lines::text(&mut line, at, b" skipped");
-    let end = lines::spaced(&mut line, at, skipped as u64);
-    lines::print(&mut line, end);
+// The last line, where all frames are listed.
+pub(crate) fn last_line(line: &mut [u8], capture: &[u8], tally: Tally) -> usize
+    requires { ⌜ tally ≡ allTallied (tally .family) (now capture) ⌝ }
+    ensures { λ r. ⌜ LaysLast (now (capture .entry)) tally (now (line .entry)) (now (line .exit)) r ⌝ }
+{
+    let at = lines::text(line, 0, b"frames");
+    let at = lines::spaced(line, at, tally.listed as u64);
+    let at = lines::text(line, at, b" bytes");
+    let at = lines::spaced(line, at, capture.len() as u64);
+    let at = lines::text(line, at, b" skipped");
+    lines::spaced(line, at, (capture.len() - tally.inside) as u64)
 }
