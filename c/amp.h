@@ -173,10 +173,11 @@ size_t amp_next(uint32_t family, const uint8_t *capture, size_t capture_len,
 
 /* Writes the frame of a kind, a code and values to the front of the output, whose rest is unchanged, and its
  * length: kind, code and values as a row has them. Values behind those of the kind are not looked at, nor is
- * the code of a status report. Refusal 2 for the code of an acknowledgement or a command, 3 for the values
- * and for what has no writer, then 4. Without a writer are sentences other than 02, 03 and 05, letters that
- * are not listed, FT as a question, AMP_OTHER, AMP_MORE, AMP_DONE and a kind that is none. A status report has
- * 75 bytes, and 76 with the comma; a message of the KPA1500 has 4 to 21, with capital letters. */
+ * the code of a status report. Refusal 2 for the code of an acknowledgement or a command, 3 for a value that
+ * does not fit, for too few values and for what has no writer, then 4. Without a writer are sentences other
+ * than 02, 03 and 05, letters that are not listed, FT as a question, AMP_OTHER, AMP_MORE, AMP_DONE and a kind
+ * that is none. A status report has 75 bytes, and 76 with the comma; a message of the KPA1500 has 4 to 21, with
+ * capital letters. */
 uint32_t amp_write(uint32_t kind, uint32_t code, const int64_t *values, size_t values_len,
                    uint8_t *out, size_t out_len, size_t *length);
 
