@@ -13,12 +13,6 @@ use lib.ListN.{length, take, drop, getD}
 use lib.Seq.{getD-take}
 use Rattle.rules.specs.Sentences.{numbers02, numbers03}
 use Rattle.rules.specs.Answers.{readOne, kindOf, values}
-use Rattle.rules.specs.declared.Status as StatusType
-use Rattle.rules.specs.declared.Sentence02.{Sentence02}
-use Rattle.rules.specs.declared.Sentence03.{Sentence03}
-use Rattle.rules.specs.declared.Sentence05.{Sentence05}
-use Rattle.rules.specs.declared.Clock as ClockType
-use Rattle.rules.specs.declared.Letters.{Letters}
 use Rattle.rules.specs.declared.Message as MessageType
 use Rattle.rules.specs.declared.Message.the-variants.{Question, Number, Version, Clock, Tune, OtherLetters}
 use Rattle.rules.specs.declared.Kind.{Kind}
@@ -29,109 +23,11 @@ use Rattle.rules.specs.declared.Reading.the-variants.{Good}
 use Rattle.stream_rules.specs.declared.Answer.{Answer}
 use Rattle.stream_rules.specs.declared.Answer.the-variants.{Ready, More, Done, Refused}
 use Rattle.stream_rules.specs.declared.Ready as ReadyType
+use Rattle.demands.proofs.Values.{at, statusOf, of02, of03, of05, clockOf, lettersOf}
 use Rattle.rows.specs.Rows.{moreRow, doneRow, headingLength, kindRow, codeOf, rowFed}
 use Rattle.boundary.specs.RowSessions.{mostLent}
 use Rattle.boundary.specs.Passed.{valueCount}
 use Rattle.boundary.proofs.Counts.{countOf, counted}
-
--- the number at a place of some values
-abbrev at : List ℤ → ℕ → ℕ
-at vs i = natAbs (getD vs i (pos 0))
-
--- The records that values are those of.
-abbrev statusOf : List ℤ → StatusType.Status
-statusOf vs = record {
-  id = at vs 0;
-  state = at vs 1;
-  direction = at vs 2;
-  bank = at vs 3;
-  input = at vs 4;
-  band = at vs 5;
-  transmit = at vs 6;
-  tuner = at vs 7;
-  receive = at vs 8;
-  level = at vs 9;
-  watts = at vs 10;
-  swratu = at vs 11;
-  swrant = at vs 12;
-  volts = at vs 13;
-  amperes = at vs 14;
-  upper = at vs 15;
-  lower = at vs 16;
-  combiner = at vs 17;
-  warning = at vs 18;
-  alarm = at vs 19;
-  comma = at vs 20;
-}
-
-abbrev of02 : List ℤ → Sentence02
-of02 vs = record {
-  pfwd = at vs 0;
-  swr = at vs 1;
-  pin = at vs 2;
-  vp = at vs 3;
-  ip = at vs 4;
-  gain = at vs 5;
-  vg = at vs 6;
-  ig = at vs 7;
-  band = at vs 8;
-  state = at vs 9;
-  fault = at vs 10;
-  key = at vs 11;
-  pep = at vs 12;
-}
-
-abbrev of03 : List ℤ → Sentence03
-of03 vs = record {
-  v5 = at vs 0;
-  v12 = at vs 1;
-  v24 = at vs 2;
-  m12 = at vs 3;
-  v40 = at vs 4;
-  acline = at vs 5;
-  mbstatus = at vs 6;
-  mbtap = at vs 7;
-  temp = getD vs 8 (pos 0);
-}
-
-abbrev of05 : List ℤ → Sentence05
-of05 vs = record {
-  band = at vs 0;
-  segment = at vs 1;
-  memory = at vs 2;
-  antenna = at vs 3;
-  meter = at vs 4;
-  control = at vs 5;
-  options = at vs 6;
-  state = at vs 7;
-  wtime = at vs 8;
-  tcmd = at vs 9;
-  lcmd = at vs 10;
-}
-
-abbrev clockOf : List ℤ → ClockType.Clock
-clockOf vs = record {
-  year = at vs 0;
-  month = at vs 1;
-  day = at vs 2;
-  hour = at vs 3;
-  minute = at vs 4;
-  second = at vs 5;
-}
-
-abbrev lettersOf : List ℤ → Letters
-lettersOf vs = record {
-  first = at vs 0;
-  second = at vs 1;
-  third = at vs 2;
-  fourth = at vs 3;
-  fifth = at vs 4;
-  sixth = at vs 5;
-  seventh = at vs 6;
-  eighth = at vs 7;
-  ninth = at vs 8;
-  tenth = at vs 9;
-}
 
 -- The frame of a kind, a code and values. Sentences of one number, and responses of the same letters, differ in how many values they have.
 abbrev sentenceFrom : ℕ → List ℤ → Frame
