@@ -1,5 +1,5 @@
 -- A capture reader in a local, in a walk: it is made by `reader_at`, lent to `next` by `&mut` for a lifetime that is made
--- for the call, and taken back at the reader that `next` leaves. What it owns, a part in the capture, stays with it.
+-- for the call, and taken back at the reader that `next` leaves. What it owns of the capture stays with it.
 --     lends-reader      the local's cell, what the reader owns and the capture's token are given up for what `next` asks
 --     takes-reader      what `next` leaves gives them back, at the reader that is left, beside the part that it gives
 -- `next` asks that the capture's lifetime outlive the loan's. So the loan's is the meet of a new lifetime with the

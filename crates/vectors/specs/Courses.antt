@@ -18,7 +18,8 @@ endings = 2
 abbrev pub whole : ℕ → Course
 whole n = record { left = n; ends = endings; closes = false }
 
--- Without a frame the piece is taken; where none is left to offer, the reader is closed, and the next time the run ends.
+-- Without a frame the piece is taken; where no byte is left to offer, the reader is closed, and the next time the run
+-- ends.
 abbrev pub pieceTaken : Course → Course
 pieceTaken c = record { left = c .left - piece; ends = c .ends; closes = false }
 

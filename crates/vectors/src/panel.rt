@@ -1,5 +1,6 @@
-// A stream run through one reader, which is kept from the first piece to the last frame and lent for each call: the bytes
-// that are not taken are offered, 16 at a time, then the reader is closed and drained. Only the reports are printed.
+// A stream run through one reader, which is kept from the first piece to the last frame and lent to each call: the
+// bytes that are not yet taken are offered, so many at a time, then the reader is closed and drained. Only the reports
+// are printed.
 use rules::Frame;
 use stream::close_lent;
 use stream::feed_lent;
@@ -84,7 +85,8 @@ fn print_answer(course: Course, answer: Answer) -> Course
     }
 }
 
-// Without a frame the piece is taken. Where none is left to offer, the reader is closed, and the next time the run ends.
+// Without a frame the piece is taken. Where no byte is left to offer, the reader is closed, and the next time the run
+// ends.
 fn no_frame(course: Course) -> Course
     ensures { λ c. ⌜ c ≡ afterNone course ⌝ }
 {

@@ -1,5 +1,6 @@
-// A capture walked to its end by one capture reader, which is kept from frame to frame, twice: every frame, then only the
-// reports. Each line has the place that the reader has reached, the part's length and its kind.
+// A capture walked to its end by one capture reader, which is kept from frame to frame and lent to each call; twice:
+// every frame, then only the reports. Each line has the place that the reader has reached, the part's length and its
+// kind.
 use captures::next;
 use captures::reader_at;
 ghost use mathlib.Core.Path.{_≡_};
