@@ -3,21 +3,21 @@
 -- Assumes nothing.
 use Prim.Native.Nat.{ℕ, _*_, _≤_}
 use mathlib.Core.Path.{_≡_, refl, sym, ap, _∙_}
-use mathlib.Core.Bool.{Bool, true, false, _&&_, cond, not, false≢true}
+use mathlib.Core.Bool.{Bool, true, false, cond, not, false≢true}
 use mathlib.Core.List.{List, [], _∷_, _++_}
 use native.Mathlib.Nat.{mul-le-mul-right}
 use native.Mathlib.Omega.{arith}
 use borrow.Author.Tests.{le-leb, leb-true}
 use lib.Dec.{leb}
-use lib.ListN.{length, take, drop, length-map}
-use lib.Seq.{take-at}
+use lib.ListN.{length, take}
 use Rattle.rules.specs.Answers.{noFamily, noRoom, isFamily}
 use Rattle.stream_rules.specs.Heads.{shortest, shortestFrame}
 use Rattle.stream_rules.specs.Rule.{Found}
-use Rattle.stream_rules.specs.Lister.{frames, startsOf, longestCapture, longestList, tooLong, fits, Lists}
+use Rattle.stream_rules.specs.Lister.{frames, longestCapture, longestList, tooLong, fits, Lists}
 use Rattle.stream_rules.specs.declared.Listed.{Listed}
 use Rattle.stream_rules.specs.declared.Listed.the-variants.{Count, Refused}
 use Rattle.stream_laws.proofs.Heads.{shortest-of-all}
+use Rattle.stream_laws.proofs.Listing.{all-listed}
 use Rattle.search.proofs.Walk.{few-frames}
 use Rattle.lines.specs.Lines.{refusedTexts}
 use Rattle.listings.specs.Listing.{headingTexts, frameLines, lastTexts, listingLines}
@@ -27,25 +27,8 @@ use Rattle.listings.specs.Tallies.{AllStarts}
 pub all-starts : (family : ℕ) (capture out : List ℕ) (answer : Listed) (n : ℕ) (after : List ℕ) → Lists family capture out answer after → answer ≡ Count n
     → AllStarts family capture (take n after)
 all-starts family capture out answer n after lists counts =
-    by (isFamily family) (fits capture) (leb (length fs) (length out)) refl refl (sym counts ∙ lists .answers) (lists .content)
-  where
-    fs : List Found
-    fs = frames family capture
-
-    by : (known short room : Bool) → isFamily family ≡ known → fits capture ≡ short
-        → Count n ≡ cond (not known) (Refused noFamily) (cond (not short) (Refused tooLong) (cond (not room) (Refused noRoom) (Count (length fs))))
-        → after ≡ cond (known && short && room) (startsOf fs ++ drop (length fs) out) out
-        → AllStarts family capture (take n after)
-    by false short room k s e left = let z : _≡_ {A = ℕ} 0 1 = cc in absurd (omega arith)
-    by true false room k s e left = let z : _≡_ {A = ℕ} 0 1 = cc in absurd (omega arith)
-    by true true false k s e left = let z : _≡_ {A = ℕ} 0 1 = cc in absurd (omega arith)
-    by true true true k s e left =
-        let many : n ≡ length fs = cc in
-        record {
-          known = k;
-          short = s;
-          all = ap (take n) left ∙ take-at (startsOf fs) (drop (length fs) out) n (length-map fs (λ (f : Found). f .start) ∙ sym many);
-        }
+    let l = all-listed family capture out answer n after lists counts in
+    record { known = l .known; short = l .short; all = l .all }
 
 -- A list with a place for as many frames as a capture can have is never too short, so the lister's answer tells the lines:
 -- the refusal alone, or the heading, the frames' lines and the last.

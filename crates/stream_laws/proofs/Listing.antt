@@ -178,14 +178,29 @@ counted true false b m n e = let z : _≡_ {A = ℕ} 0 1 = cc in absurd (omega a
 counted true true false m n e = let z : _≡_ {A = ℕ} 0 1 = cc in absurd (omega arith)
 counted true true true m n e = (refl, refl, refl, cc)
 
--- So there are no more starts than places in the list.
-pub lists-fit : (family : ℕ) (capture out : List ℕ) (answer : Listed) (n : ℕ) (after : List ℕ) → Lists family capture out answer after → answer ≡ Count n → n ≤ length after
-lists-fit family capture out answer n after lists counts =
+-- So where it says how many, the front of its list are the starts of all frames.
+pub record AllListed (family : ℕ) (capture : List ℕ) (n : ℕ) (after : List ℕ) : Type 0 where
+  pub known : isFamily family ≡ true
+  pub short : fits capture ≡ true
+  pub many : n ≡ length (frames family capture)
+  pub places : n ≤ length after
+  pub all : take n after ≡ startsOf (frames family capture)
+
+pub all-listed : (family : ℕ) (capture out : List ℕ) (answer : Listed) (n : ℕ) (after : List ℕ) → Lists family capture out answer after → answer ≡ Count n
+    → AllListed family capture n after
+all-listed family capture out answer n after lists counts =
     let fs = frames family capture in
     let says = counted (isFamily family) (fits capture) (leb (length fs) (length out)) (length fs) n (sym counts ∙ lists .answers) in
     let left : after ≡ startsOf fs ++ drop (length fs) out = lists .content ∙ rw (says .0, says .1, says .2) in
     let size : length after ≡ length (startsOf fs) + length (drop (length fs) out) = ap length left ∙ length-append (startsOf fs) (drop (length fs) out) in
-    omega (arith, size, length-map fs (λ (f : Found). f .start), says .3)
+    let long = length-map fs (λ (f : Found). f .start) in
+    record {
+      known = says .0;
+      short = says .1;
+      many = says .3;
+      places = omega (arith, size, long, says .3);
+      all = ap (take n) left ∙ take-at (startsOf fs) (drop (length fs) out) n (long ∙ sym (says .3));
+    }
 
 -- The reader's starts are the lister's, modulo 2^32; and on a capture its frames are the rule's, with nothing wrapped.
 module _ (family : ℕ) (known : isFamily family ≡ true) (facts : Facts (head family) (longest family)) (t : Turned) (begins : Makes family t)
@@ -200,10 +215,6 @@ module _ (family : ℕ) (known : isFamily family ≡ true) (facts : Facts (head 
   pub lister-agrees : (out : List ℕ) (n : ℕ) (after : List ℕ) → Lists family stream out (Count n) after
       → (n ≡ length (handed answers)) × (take n after ≡ startsOf (handed answers))
   lister-agrees out n after lists =
-      let fs : List Found = frames family stream in
-      let says = counted (isFamily family) (fits stream) (leb (length fs) (length out)) (length fs) n (lists .answers) in
-      let agrees : handed answers ≡ fs = capture-agrees (leb-true (length stream) 65536 (says .1)) in
-      let left : after ≡ startsOf fs ++ drop (length fs) out = lists .content ∙ rw (says .0, says .1, says .2) in (
-        says .3 ∙ ap length (sym agrees),
-        ap (take n) left ∙ take-at (startsOf fs) (drop (length fs) out) n (length-map fs (λ (f : Found). f .start) ∙ sym (says .3)) ∙ ap startsOf (sym agrees),
-      )
+      let l = all-listed family stream out (Count n) n after lists refl in
+      let agrees : handed answers ≡ frames family stream = capture-agrees (leb-true (length stream) 65536 (l .short)) in
+      (l .many ∙ ap length (sym agrees), l .all ∙ ap startsOf (sym agrees))

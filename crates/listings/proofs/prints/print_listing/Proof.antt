@@ -6,7 +6,7 @@ use mathlib.Core.Path.{_≡_, sym, ap, subst}
 use mathlib.Core.List.{List}
 use native.Mathlib.Omega.{arith}
 use lib.ListN.{length-take}
-use Rattle.stream_laws.proofs.Listing.{lists-fit}
+use Rattle.stream_laws.proofs.Listing.{all-listed}
 use Rattle.listings.specs.Tallies.{allTallied}
 use Rattle.listings.specs.declared.table.Tally.{Tally}
 use Rattle.listings.proofs.Answers.{all-starts}
@@ -32,7 +32,7 @@ print-heading-requires c κs = search needs
 array-share-prefix-starts : tie.Need-array-share-prefix-starts
 array-share-prefix-starts c =
     let n = c .before .before in
-    lists-fit _ _ _ _ _ _ (n .before .before .before .list-frames .ensures) (n .n .given .1)
+    all-listed _ _ _ _ _ _ (n .before .before .before .list-frames .ensures) (n .n .given .1) .places
 
 slice-aggregate-print-frames : tie.Need-slice-aggregate-print-frames
 slice-aggregate-print-frames c =
