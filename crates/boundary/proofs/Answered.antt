@@ -12,7 +12,7 @@ use Rattle.rules.specs.Answers.{readOne, noFamily}
 use Rattle.rules.specs.declared.Frame.{Frame}
 use Rattle.rules.specs.declared.Reading.the-variants.{Good}
 use Rattle.stream_rules.specs.Heads.{longest, head, atClose, good}
-use Rattle.stream_rules.specs.Rule.{Look, ready, waiting, look, Call as CallOf, gives, wants, call}
+use Rattle.stream_rules.specs.Rule.{Look, ready, waiting, look, Call, gives, wants, call}
 use Rattle.stream_rules.specs.Streams.{heldOf, isClosed, holdsTooMuch, openCall, closedCall, refuse, fed}
 use Rattle.stream_rules.specs.declared.Reader.{Reader}
 use Rattle.stream_rules.specs.declared.Answer.{Answer}
@@ -24,9 +24,9 @@ use Rattle.stream_laws.proofs.Looks.{look-ready, closed-good}
 use Rattle.stream_laws.proofs.Calls.{gives-first}
 use Rattle.stream_laws.proofs.States.{CallKind, kind, longest-fits, open-call, closed-call, refused-1, refused-6, refused-5}
 use Rattle.rows.specs.Rows.{rowFed}
-use Rattle.boundary.specs.RowSessions.{mostLent, Call}
+use Rattle.boundary.specs.RowSessions.{mostLent, RowCall}
 use Rattle.boundary.proofs.RowSessions.{few, had}
-use Rattle.boundary.proofs.Apart.{Counted, Given, one-answer}
+use Rattle.boundary.proofs.Apart.{Lendable, WasRead, one-answer}
 
 -- A frame that stands at the head of some bytes was read from them, and is short.
 record Read (family n : ℕ) (f : Frame) : Type 0 where
@@ -43,10 +43,10 @@ read-there family bs n f e = record {
 
 -- what is said of an answer
 abbrev pub Fine : Answer → Type 0
-Fine a = (isNoRefusal a ≡ true) × Given a × Counted a
+Fine a = (isNoRefusal a ≡ true) × WasRead a × Lendable a
 
 module _ (r : Reader) (offered : List ℕ) where
-  open-fine : (c : CallOf) → call (head (r .family)) (heldOf r) offered ≡ c → takenOf (openCall r c .answer) < mostLent → Fine (openCall r c .answer)
+  open-fine : (c : Call) → call (head (r .family)) (heldOf r) offered ≡ c → takenOf (openCall r c .answer) < mostLent → Fine (openCall r c .answer)
   open-fine (gives taken k n f kept) e small =
       let first = gives-first (head (r .family)) (longest (r .family)) (facts (r .family)) (heldOf r) offered taken k n f kept e in
       let t = read-there (r .family) (drop k (heldOf r ++ take taken offered)) n f (first .here) in
@@ -60,7 +60,7 @@ module _ (r : Reader) (offered : List ℕ) where
       (refl, (r .family, t .bytes, t .reads), (omega arith, t .short))
   closed-fine (waiting k rest) e = (refl, tt, omega arith)
 
-module _ {r : Reader} {offered : List ℕ} {number : ℕ} {after : Reader} {row : List ℤ} (c : Call r offered number after row) (accepted : number ≡ 0) where
+module _ {r : Reader} {offered : List ℕ} {number : ℕ} {after : Reader} {row : List ℤ} (c : RowCall r offered number after row) (accepted : number ≡ 0) where
   pub fine : Fine (fed r offered .answer)
   fine = go (kind r offered)
     where
@@ -84,7 +84,7 @@ module _ {r : Reader} {offered : List ℕ} {number : ℕ} {after : Reader} {row 
 
 -- Two calls that leave the same numbers gave the same answer.
 pub rows-tell-apart : {r s : Reader} {offered given : List ℕ} {m n : ℕ} {after then : Reader} {row : List ℤ}
-    → Call r offered m after row → Call s given n then row → m ≡ 0 → n ≡ 0
+    → RowCall r offered m after row → RowCall s given n then row → m ≡ 0 → n ≡ 0
     → fed r offered .answer ≡ fed s given .answer
 rows-tell-apart {r} {s} {offered} {given} {row = row} c d p q =
     one-answer row (fed r offered .answer) (fed s given .answer) (fine c p .1) (fine d q .1) (fine c p .2) (fine d q .2) (shows c p) (shows d q)

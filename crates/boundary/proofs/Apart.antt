@@ -97,13 +97,13 @@ answerFrom numbers =
     (Ready (readyFrom numbers)))
 
 -- An answer that has a row, with counts that C can have: nothing that it lends is longer.
-abbrev pub Counted : Answer → Type 0
-Counted (Ready x) = (x .taken < mostLent) × (x .length < mostLent)
-Counted (More n) = n < mostLent
-Counted (Done n) = n < mostLent
-Counted (Refused n) = ⊥
+abbrev pub Lendable : Answer → Type 0
+Lendable (Ready x) = (x .taken < mostLent) × (x .length < mostLent)
+Lendable (More n) = n < mostLent
+Lendable (Done n) = n < mostLent
+Lendable (Refused n) = ⊥
 
-ready-back : (x : ReadyType.Ready) → Counted (Ready x) → readyFrom (rowFed (Ready x)) ≡ x
+ready-back : (x : ReadyType.Ready) → Lendable (Ready x) → readyFrom (rowFed (Ready x)) ≡ x
 ready-back x s i = record {
   taken = mod-eq-of-lt (s .0) i;
   start = x .start;
@@ -112,28 +112,28 @@ ready-back x s i = record {
   frame = frame-back (x .frame) i;
 }
 
-answer-back : (a : Answer) → Counted a → answerFrom (rowFed a) ≡ a
+answer-back : (a : Answer) → Lendable a → answerFrom (rowFed a) ≡ a
 answer-back (Ready x) s = rw (of-frame (kindOf (x .frame)) .0, of-frame (kindOf (x .frame)) .1) (ap Ready (ready-back x s))
 answer-back (More n) s = ap More (mod-eq-of-lt s)
 answer-back (Done n) s = ap Done (mod-eq-of-lt s)
 answer-back (Refused n) s = absurd s
 
 -- Two answers with one row are equal.
-pub rows-apart : (a b : Answer) → Counted a → Counted b → rowFed a ≡ rowFed b → a ≡ b
+pub rows-apart : (a b : Answer) → Lendable a → Lendable b → rowFed a ≡ rowFed b → a ≡ b
 rows-apart a b s t e = sym (answer-back a s) ∙ ap answerFrom e ∙ answer-back b t
 
 -- An answer as a call gives it: its frame was read from some bytes.
-abbrev pub Given : Answer → Type 0
-Given (Ready x) = (family : ℕ) × (bytes : List ℕ) × (readOne family bytes ≡ Good (x .frame))
-Given (More n) = Unit {0}
-Given (Done n) = Unit {0}
-Given (Refused n) = ⊥
+abbrev pub WasRead : Answer → Type 0
+WasRead (Ready x) = (family : ℕ) × (bytes : List ℕ) × (readOne family bytes ≡ Good (x .frame))
+WasRead (More n) = Unit {0}
+WasRead (Done n) = Unit {0}
+WasRead (Refused n) = ⊥
 
 -- The length of its row is told by the row's kind and code.
-ready-length : (x : ReadyType.Ready) → Given (Ready x) → length (rowFed (Ready x)) ≡ headingLength + countOf (x .frame)
+ready-length : (x : ReadyType.Ready) → WasRead (Ready x) → length (rowFed (Ready x)) ≡ headingLength + countOf (x .frame)
 ready-length x (family, bytes, e) = omega (arith, counted family bytes (x .frame) e)
 
-told-length : (a : Answer) → Given a → length (rowFed a) ≡ headingLength + valueCount (at (rowFed a) 0) (at (rowFed a) 1)
+told-length : (a : Answer) → WasRead a → length (rowFed a) ≡ headingLength + valueCount (at (rowFed a) 0) (at (rowFed a) 1)
 unfolding valueCount
 told-length (Ready x) g = ready-length x g
 told-length (More n) g = refl
@@ -141,7 +141,7 @@ told-length (Done n) g = refl
 told-length (Refused n) g = absurd g
 
 -- Where the row of an answer stands at the front of some numbers, its kind and its code are the first of them.
-module _ (row : List ℤ) (a : Answer) (g : Given a) (shown : take (length (rowFed a)) row ≡ rowFed a) where
+module _ (row : List ℤ) (a : Answer) (g : WasRead a) (shown : take (length (rowFed a)) row ≡ rowFed a) where
   first : (i : ℕ) → i < 6 → at row i ≡ at (rowFed a) i
   first i small = ap natAbs (sym (getD-take (length (rowFed a)) row i (pos 0) (omega (arith, told-length a g))) ∙ ap (λ (r : List ℤ). getD r i (pos 0)) shown)
 
@@ -149,7 +149,7 @@ module _ (row : List ℤ) (a : Answer) (g : Given a) (shown : take (length (rowF
   told-here = told-length a g ∙ sym (ap (λ (k : ℕ). headingLength + valueCount k (at row 1)) (first 0 (omega arith)) ∙ ap (λ (c : ℕ). headingLength + valueCount (at (rowFed a) 0) c) (first 1 (omega arith)))
 
 -- So what a call leaves in the lent numbers is the row of one answer only.
-pub one-answer : (row : List ℤ) (a b : Answer) → Given a → Given b → Counted a → Counted b
+pub one-answer : (row : List ℤ) (a b : Answer) → WasRead a → WasRead b → Lendable a → Lendable b
     → take (length (rowFed a)) row ≡ rowFed a → take (length (rowFed b)) row ≡ rowFed b → a ≡ b
 one-answer row a b g h s t p q =
     let long : length (rowFed a) ≡ length (rowFed b) = told-here row a g p ∙ sym (told-here row b h q) in

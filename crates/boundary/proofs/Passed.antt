@@ -39,10 +39,10 @@ use Rattle.row_writer.proofs.Frames.{as-none, as-sentence}
 use Rattle.row_writer.proofs.Told.{given-told}
 use Rattle.row_writer.proofs.Back.{given-back}
 use Rattle.amp.specs.Boundary.{ReadsRow}
-use Rattle.boundary.specs.RowSessions.{kindIn, Call}
-use Rattle.boundary.specs.Passed.{codeIn, valuesIn, valueCount, familyIn, WrittenRead, ReadsBack, WritesRecord}
+use Rattle.boundary.specs.RowSessions.{rowKind, RowCall}
+use Rattle.boundary.specs.Passed.{rowCode, rowValues, valueCount, familyIn, WrittenRead, ReadsBack, WritesRecord}
 use Rattle.boundary.proofs.Counts.{counted}
-use Rattle.boundary.proofs.Apart.{Given}
+use Rattle.boundary.proofs.Apart.{WasRead}
 use Rattle.boundary.proofs.Answered.{fine, shows}
 
 -- A row's kind tells the family.
@@ -122,10 +122,10 @@ written-reads-back kind code vs number numbers w =
     counted (familyIn kind) (take (w .told) (w .after)) f good ∙ ap₂ valueCount (t .same-kind) (t .same-code) ∙ same-count kind code in
     record {
       accepted = zero;
-      same-kind = ap kindIn content ∙ ap pos (t .same-kind);
-      same-code = ap codeIn content ∙ ap pos (t .same-code);
+      same-kind = ap rowKind content ∙ ap pos (t .same-kind);
+      same-code = ap rowCode content ∙ ap pos (t .same-code);
       enough = omega (arith, count, t .enough);
-      same-values = ap (λ (l : List ℤ). take (valueCount kind code) (valuesIn l)) content
+      same-values = ap (λ (l : List ℤ). take (valueCount kind code) (rowValues l)) content
           ∙ ap (λ (n : ℕ). take n (values f ++ drop (length (row 0 0 0 size f)) (w .numbers))) (sym count)
           ∙ take-append-seam (values f) (drop (length (row 0 0 0 size f)) (w .numbers))
           ∙ t .same-values
@@ -169,7 +169,7 @@ same-given family bs f good rest = by-writer (hasWriter f) refl
 module _ (family : ℕ) (bs : List ℕ) (f : Frame) (good : readOne family bs ≡ Good f) (taken start skipped size : ℕ) (numbers : List ℤ)
     (shown : take (length (row taken start skipped size f)) numbers ≡ row taken start skipped size f) where
   pub passed-on : {out : List ℕ} {before answer : ℕ} {after : List ℕ} {told : ℕ}
-      → WritesGiven (natAbs (kindIn numbers)) (natAbs (codeIn numbers)) (valuesIn numbers) out before answer after told
+      → WritesGiven (natAbs (rowKind numbers)) (natAbs (rowCode numbers)) (rowValues numbers) out before answer after told
       → WritesRecord f out before answer after told
   passed-on {out} {before} {answer} {after} {told} w =
       let r = row taken start skipped size f in
@@ -177,7 +177,7 @@ module _ (family : ℕ) (bs : List ℕ) (f : Frame) (good : readOne family bs �
       let is : numbers ≡ r ++ rest = sym (take-append-drop (length r) numbers) ∙ ap (λ (l : List ℤ). l ++ rest) shown in
       let s = same-given family bs f good rest in
       let v : WritesGiven (kindRow (kindOf f)) (codeOf (kindOf f)) (values f ++ rest) out before answer after told =
-      subst (λ (l : List ℤ). WritesGiven (natAbs (kindIn l)) (natAbs (codeIn l)) (valuesIn l) out before answer after told) is w in
+      subst (λ (l : List ℤ). WritesGiven (natAbs (rowKind l)) (natAbs (rowCode l)) (rowValues l) out before answer after told) is w in
       record {
         answers = rw (s .may, s .refusal, s .bytes) at (v .answers);
         content = rw (s .may, s .bytes) at (v .content);
@@ -188,7 +188,7 @@ module _ (family : ℕ) (bs : List ℕ) (f : Frame) (good : readOne family bs �
 pub read-passed-on : (family : ℕ) (bs : List ℕ) (was numbers : List ℤ) → ReadsRow family bs was 0 numbers
     → (f : Frame) × (readOne family bs ≡ Good f)
     × ((out : List ℕ) (before answer : ℕ) (after : List ℕ) (told : ℕ)
-    → WritesGiven (natAbs (kindIn numbers)) (natAbs (codeIn numbers)) (valuesIn numbers) out before answer after told
+    → WritesGiven (natAbs (rowKind numbers)) (natAbs (rowCode numbers)) (rowValues numbers) out before answer after told
     → WritesRecord f out before answer after told)
 unfolding front
 read-passed-on family bs was numbers e =
@@ -198,12 +198,12 @@ read-passed-on family bs was numbers e =
     (h .frame, h .is-good, λ out before answer after told. passed-on family bs (h .frame) (h .is-good) 0 0 0 (length bs) numbers shown)
 
 -- and of one that `amp_feed` laid.
-pub fed-passed-on : {r : Reader} {offered : List ℕ} {after : Reader} {numbers : List ℤ} → Call r offered 0 after numbers
+pub fed-passed-on : {r : Reader} {offered : List ℕ} {after : Reader} {numbers : List ℤ} → RowCall r offered 0 after numbers
     → (x : ReadyType.Ready) → fed r offered .answer ≡ Ready x
     → {out : List ℕ} {before answer : ℕ} {left : List ℕ} {told : ℕ}
-    → WritesGiven (natAbs (kindIn numbers)) (natAbs (codeIn numbers)) (valuesIn numbers) out before answer left told
+    → WritesGiven (natAbs (rowKind numbers)) (natAbs (rowCode numbers)) (rowValues numbers) out before answer left told
     → WritesRecord (x .frame) out before answer left told
 fed-passed-on {numbers = numbers} c x e =
-    let (family, bs, good) = subst Given (e) (fine c refl .1) in
+    let (family, bs, good) = subst WasRead (e) (fine c refl .1) in
     let shown = subst (λ (a : Answer). take (length (rowFed a)) numbers ≡ rowFed a) e (shows c refl) in
     passed-on family bs (x .frame) good (x .taken) (x .start) (x .skipped) (x .length) numbers shown

@@ -22,7 +22,7 @@ use Rattle.stream_rules.specs.declared.Answer.the-variants.{Ready, More, Done, 
 use Rattle.stream_rules.specs.declared.Fed.{Fed}
 use Rattle.stream_rules.specs.declared.Outcome.{Outcome}
 use Rattle.stream_rules.specs.declared.Turned.{Turned}
-use Rattle.stream_laws.specs.Sessions.{Draining, Session, joined, takenOf, isNoRefusal}
+use Rattle.stream_laws.specs.Sessions.{Draining, Session, streamOf, takenOf, isNoRefusal}
 use Rattle.stream_laws.proofs.Families.{facts}
 use Rattle.stream_laws.proofs.Saying.{feeds, shuts, makes}
 use Rattle.stream_laws.proofs.States.{Serves, served-open, served-closed, served-shut, served-fresh, taken-within}
@@ -32,7 +32,7 @@ use Rattle.rows.specs.Rows.{longestRow, doneRow, kindRow, rowFed, front, refusa
 use Rattle.rows.proofs.Lengths.{row-fits, room}
 use Rattle.amp.specs.Boundary.{Freshens, Closes}
 use Rattle.boundary.proofs.Apart.{of-frame}
-use Rattle.boundary.specs.RowSessions.{kindIn, takenIn, mostLent, Call, RowDraining, RowSession, RowsOf, RowDemand3}
+use Rattle.boundary.specs.RowSessions.{rowKind, rowTaken, mostLent, RowCall, RowDraining, RowSession, RowsOf, RowDemand3}
 
 -- what a row that stands at the front shows
 at-front : (r numbers : List ℤ) → take (length r) (front r numbers) ≡ r
@@ -44,13 +44,13 @@ pub record Had (r : Reader) (offered : List ℕ) (a : Answer) (number : ℕ) (af
   pub zero : number ≡ 0
   pub left : after ≡ fed r offered .reader
   pub shown : take (length (rowFed a)) row ≡ rowFed a
-  pub taken : takenIn row ≡ takenOf a
-  pub kind : kindIn row ≡ kindIn (rowFed a)
+  pub taken : rowTaken row ≡ takenOf a
+  pub kind : rowKind row ≡ rowKind (rowFed a)
 
-module _ {r : Reader} {offered : List ℕ} {number : ℕ} {after : Reader} {row : List ℤ} (c : Call r offered number after row) where
+module _ {r : Reader} {offered : List ℕ} {number : ℕ} {after : Reader} {row : List ℤ} (c : RowCall r offered number after row) where
   -- from a row that has room and says how many bytes were taken
-  had-row : (a : Answer) → fed r offered .answer ≡ a → number ≡ 0 → takenIn (front (rowFed a) (c .numbers)) ≡ takenOf a
-      → kindIn (front (rowFed a) (c .numbers)) ≡ kindIn (rowFed a) → Had r offered a number after row
+  had-row : (a : Answer) → fed r offered .answer ≡ a → number ≡ 0 → rowTaken (front (rowFed a) (c .numbers)) ≡ takenOf a
+      → rowKind (front (rowFed a) (c .numbers)) ≡ rowKind (rowFed a) → Had r offered a number after row
   had-row a e zero told first =
       let content : row ≡ front (rowFed a) (c .numbers) =
       c .feeds .lays .content ∙ rw (eq-eqb number 0 zero, e) in
@@ -58,8 +58,8 @@ module _ {r : Reader} {offered : List ℕ} {number : ℕ} {after : Reader} {row 
         zero = zero;
         left = c .feeds .leaves ∙ rw (eq-eqb number 0 zero);
         shown = ap (take (length (rowFed a))) content ∙ at-front (rowFed a) (c .numbers);
-        taken = ap takenIn content ∙ told;
-        kind = ap kindIn content ∙ first;
+        taken = ap rowTaken content ∙ told;
+        kind = ap rowKind content ∙ first;
       }
 
   pub few : takenOf (fed r offered .answer) < mostLent
@@ -87,7 +87,7 @@ zeros : (number : ℕ) (numbers : List ℕ) → number ≡ 0 → every (eqb 0) n
 zeros number numbers e rest = every-cons (eqb 0) number numbers (eq-eqb 0 number (sym e)) rest
 
 -- only the row of done says so
-is-done : (a : Answer) → kindIn (rowFed a) ≡ pos doneRow → (n : ℕ) × (a ≡ Done n)
+is-done : (a : Answer) → rowKind (rowFed a) ≡ pos doneRow → (n : ℕ) × (a ≡ Done n)
 is-done (Ready x) e = absurd (eqb-false (kindRow (kindOf (x .frame))) doneRow (of-frame (kindOf (x .frame)) .1) (ap natAbs e))
 is-done (More n) e = absurd (omega (arith, ap natAbs e))
 is-done (Done n) e = (n, refl)
@@ -140,7 +140,7 @@ behind {r} (RowSession.calls {left = left} {lengths = lengths} {numbers = number
     let served = served-open r (facts (r .family)) (take n left) s in
     let h = had c (a .answer) refl (served .fine) in
     let rest = behind later (subst (Serves 0) (sym (h .left)) (served .serves)) in
-    let then = subst (λ (q : Reader). Session q (drop (takenIn row) left) lengths (rest .answers)) (h .left) (rest .session) in
+    let then = subst (λ (q : Reader). Session q (drop (rowTaken row) left) lengths (rest .answers)) (h .left) (rest .session) in
     record {
       none = zeros number numbers (h .zero) (rest .none);
       answers = a .answer ∷ rest .answers;
@@ -190,7 +190,7 @@ module _ (r : Reader) (offered : List ℕ) where
   abbrev readerOf : Reader
   readerOf = cond (eqb numberOf 0) (fed r offered .reader) r
 
-  called : length offered < mostLent → Call r offered numberOf readerOf rowOf
+  called : length offered < mostLent → RowCall r offered numberOf readerOf rowOf
   called small = record {
     numbers = lent;
     room = omega (arith, length-replicate longestRow (pos 0));
@@ -220,7 +220,7 @@ there-drained {r} (Draining.ends a n e done) s =
     let c = called r [] (omega arith) in
     let h = had c (fed r [] .answer) refl (served .fine) in
     let is : fed r [] .answer ≡ Done n = sym (ap (λ (f : Fed). f .answer) (e .answers)) ∙ done in
-    (numberOf r [] ∷ [], rowOf r [] ∷ [], RowDraining.ends (numberOf r []) (readerOf r []) (rowOf r []) c (h .kind ∙ ap (λ (b : Answer). kindIn (rowFed b)) is))
+    (numberOf r [] ∷ [], rowOf r [] ∷ [], RowDraining.ends (numberOf r []) (readerOf r []) (rowOf r []) c (h .kind ∙ ap (λ (b : Answer). rowKind (rowFed b)) is))
 
 pub rows-there : {r : Reader} {left lengths : List ℕ} {answers : List Answer} → Session r left lengths answers → Serves 0 r → length left < mostLent
     → (numbers : List ℕ) × (rows : List (List ℤ)) × RowSession r left lengths numbers rows
@@ -232,12 +232,12 @@ rows-there {r} (Session.calls {left = left} {lengths = lengths} n a e later) s s
     let (numbers, rows, rest) =
     rows-there later (subst (λ (f : Fed). Serves 0 (f .reader)) (sym (e .answers)) (served .serves)) (omega (arith, small, length-drop (takenOf (a .answer)) left)) in
     let is : a .reader ≡ readerOf r offered = ap (λ (f : Fed). f .reader) (e .answers) ∙ sym (h .left) in
-    let took : takenOf (a .answer) ≡ takenIn (rowOf r offered) = ap (λ (f : Fed). takenOf (f .answer)) (e .answers) ∙ sym (h .taken) in
+    let took : takenOf (a .answer) ≡ rowTaken (rowOf r offered) = ap (λ (f : Fed). takenOf (f .answer)) (e .answers) ∙ sym (h .taken) in
     let then = subst (λ (k : ℕ). RowSession (a .reader) (drop k left) lengths numbers rows) took rest in (
       numberOf r offered ∷ numbers,
       rowOf r offered ∷ rows,
       RowSession.calls n (numberOf r offered) (readerOf r offered) (rowOf r offered) c
-          (subst (λ (q : Reader). RowSession q (drop (takenIn (rowOf r offered)) left) lengths numbers rows) is then),
+          (subst (λ (q : Reader). RowSession q (drop (rowTaken (rowOf r offered)) left) lengths numbers rows) is then),
     )
 rows-there {r} (Session.closes t e later) s small =
     let (numbers, rows, rest) = there-drained later (subst (λ (u : Turned). Serves 1 (u .reader)) (sym (e .answers)) (served-shut r (facts (r .family)) s .1)) in
@@ -248,11 +248,11 @@ rows-there {r} (Session.closes t e later) s small =
 -- So there is one for every cut of a stream.
 pub rows-end : (family : ℕ) → isFamily family ≡ true
     → (was : Reader) (number : ℕ) (reader : Reader) → Freshens family was number reader
-    → (pieces : List (List ℕ)) → length (joined pieces) < mostLent
-    → (lengths numbers : List ℕ) × (rows : List (List ℤ)) × RowSession reader (joined pieces) lengths numbers rows
+    → (pieces : List (List ℕ)) → length (streamOf pieces) < mostLent
+    → (lengths numbers : List ℕ) × (rows : List (List ℤ)) × RowSession reader (streamOf pieces) lengths numbers rows
 rows-end family known was number reader freshens pieces small =
     let is : reader ≡ fresh family .reader = freshens .leaves ∙ rw known in
     let (answers, following) = possible family known (fresh family) (makes refl) pieces in
     let (lengths, session) = followed following in
     let (numbers, rows, there) = rows-there session (served-fresh family known .1) small in
-    (lengths, numbers, rows, subst (λ (q : Reader). RowSession q (joined pieces) lengths numbers rows) (sym is) there)
+    (lengths, numbers, rows, subst (λ (q : Reader). RowSession q (streamOf pieces) lengths numbers rows) (sym is) there)

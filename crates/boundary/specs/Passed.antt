@@ -15,14 +15,14 @@ use Rattle.rules.specs.declared.Frame.{Frame}
 use Rattle.rows.specs.Rows.{ackRow, statusRow, commandRow, sentenceRow, responseRow, otherRow, headingLength, longestRow}
 use Rattle.row_writer.specs.Given.{WritesNumbers, WritesGiven}
 use Rattle.amp.specs.Boundary.{ReadsRow}
-use Rattle.boundary.specs.RowSessions.{kindIn}
+use Rattle.boundary.specs.RowSessions.{rowKind}
 
 -- Its second number is the code. Its values stand behind the heading, and whatever stood in the lent numbers behind them.
-abbrev pub codeIn : List ℤ → ℤ
-codeIn numbers = getD numbers 1 (pos 0)
+abbrev pub rowCode : List ℤ → ℤ
+rowCode numbers = getD numbers 1 (pos 0)
 
-abbrev pub valuesIn : List ℤ → List ℤ
-valuesIn numbers = drop headingLength numbers
+abbrev pub rowValues : List ℤ → List ℤ
+rowValues numbers = drop headingLength numbers
 
 -- How many values a frame has, by its kind and its code: a status report 21; sentences 02, 03 and 05 the numbers of their records; a
 -- response what may stand behind its letters; letters that are not listed ten numbers; all others none.
@@ -66,10 +66,10 @@ pub record WrittenRead (kind code : ℕ) (vs : List ℤ) (number : ℕ) (row : L
 -- not looked at; nor are values behind those of the kind.
 pub record ReadsBack (kind code : ℕ) (vs : List ℤ) (number : ℕ) (row : List ℤ) : Type 0 where
   pub accepted : number ≡ 0
-  pub same-kind : kindIn row ≡ pos kind
-  pub same-code : codeIn row ≡ pos (cond (eqb kind statusRow) 0 code)
+  pub same-kind : rowKind row ≡ pos kind
+  pub same-code : rowCode row ≡ pos (cond (eqb kind statusRow) 0 code)
   pub enough : valueCount kind code ≤ length vs
-  pub same-values : take (valueCount kind code) (valuesIn row) ≡ take (valueCount kind code) vs
+  pub same-values : take (valueCount kind code) (rowValues row) ≡ take (valueCount kind code) vs
 
 -- A writer's call that answers and leaves what one of this frame's record does.
 abbrev pub WritesRecord : Frame → List ℕ → ℕ → ℕ → List ℕ → ℕ → Type 0

@@ -16,18 +16,18 @@ use Rattle.row_stream.specs.FedRows.{FeedsRow}
 use Rattle.amp.specs.Boundary.{Closes}
 
 -- What a program takes from a row: its kind is the first number, and how many bytes were taken the third.
-abbrev pub kindIn : List ℤ → ℤ
-kindIn numbers = getD numbers 0 (pos 0)
+abbrev pub rowKind : List ℤ → ℤ
+rowKind numbers = getD numbers 0 (pos 0)
 
-abbrev pub takenIn : List ℤ → ℕ
-takenIn numbers = natAbs (getD numbers 2 (pos 0))
+abbrev pub rowTaken : List ℤ → ℕ
+rowTaken numbers = natAbs (getD numbers 2 (pos 0))
 
 -- No slice that C lends has more bytes.
 abbrev pub mostLent : ℕ
 mostLent = 2 ^ 63
 
 -- A call of `amp_feed` with room for every row: what it gives back, the reader that it leaves, and its row.
-pub record Call (r : Reader) (offered : List ℕ) (number : ℕ) (after : Reader) (row : List ℤ) : Type 0 where
+pub record RowCall (r : Reader) (offered : List ℕ) (number : ℕ) (after : Reader) (row : List ℤ) : Type 0 where
   pub numbers : List ℤ
   pub room : longestRow ≤ length numbers
   pub lent : length offered < mostLent
@@ -36,19 +36,19 @@ pub record Call (r : Reader) (offered : List ℕ) (number : ℕ) (after : Reader
 -- After the close: calls that offer nothing, at least until a row says done. The lists are the numbers that the functions gave
 -- back and the rows, in order.
 pub data RowDraining : Reader → List ℕ → List (List ℤ) → Type 0 where
-  calls : {r : Reader} {numbers : List ℕ} {rows : List (List ℤ)} (number : ℕ) (after : Reader) (row : List ℤ) → Call r [] number after row
+  calls : {r : Reader} {numbers : List ℕ} {rows : List (List ℤ)} (number : ℕ) (after : Reader) (row : List ℤ) → RowCall r [] number after row
       → RowDraining after numbers rows → RowDraining r (number ∷ numbers) (row ∷ rows)
   closes-again : {r : Reader} {numbers : List ℕ} {rows : List (List ℤ)} (number : ℕ) (after : Reader) → Closes r number after
       → RowDraining after numbers rows → RowDraining r (number ∷ numbers) rows
-  ends : {r : Reader} (number : ℕ) (after : Reader) (row : List ℤ) → Call r [] number after row
-      → kindIn row ≡ pos doneRow → RowDraining r (number ∷ []) (row ∷ [])
+  ends : {r : Reader} (number : ℕ) (after : Reader) (row : List ℤ) → RowCall r [] number after row
+      → rowKind row ≡ pos doneRow → RowDraining r (number ∷ []) (row ∷ [])
 
 -- From a reader and what is left of the stream: calls, each of which offers a number of bytes of what is left, or all of
 -- them if there are fewer, and whatever its row does not say to be taken is left; then, when nothing is left, the close.
 pub data RowSession : Reader → List ℕ → List ℕ → List ℕ → List (List ℤ) → Type 0 where
   calls : {r : Reader} {left lengths numbers : List ℕ} {rows : List (List ℤ)} (n number : ℕ) (after : Reader) (row : List ℤ)
-      → Call r (take n left) number after row
-      → RowSession after (drop (takenIn row) left) lengths numbers rows
+      → RowCall r (take n left) number after row
+      → RowSession after (drop (rowTaken row) left) lengths numbers rows
       → RowSession r left (n ∷ lengths) (number ∷ numbers) (row ∷ rows)
   closes : {r : Reader} {numbers : List ℕ} {rows : List (List ℤ)} (number : ℕ) (after : Reader) → Closes r number after
       → RowDraining after numbers rows → RowSession r [] [] (number ∷ numbers) rows

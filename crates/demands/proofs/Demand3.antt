@@ -14,7 +14,7 @@ use Rattle.stream_rules.specs.Lister.{frames, startsOf, Lists}
 use Rattle.stream_rules.specs.declared.Answer.{Answer}
 use Rattle.stream_rules.specs.declared.Turned.{Turned}
 use Rattle.stream_rules.specs.declared.Listed.the-variants.{Count}
-use Rattle.stream_laws.specs.Sessions.{Session, Following, joined, handed, Demand3}
+use Rattle.stream_laws.specs.Sessions.{Session, Following, streamOf, handed, Demand3}
 use Rattle.stream_laws.specs.Earliest.{EarliestFirst}
 use Rattle.stream_laws.proofs.Sessions as sessions
 use Rattle.stream_laws.proofs.Possible as sessions-there
@@ -37,7 +37,7 @@ module _ (family : ℕ) (known : isFamily family ≡ true) where
     sessions-end = sessions-there.possible family known t begins
 
     pub following-is-session : (pieces : List (List ℕ)) (answers : List Answer) → Following (t .reader) pieces answers
-        → (lengths : List ℕ) × Session (t .reader) (joined pieces) lengths answers
+        → (lengths : List ℕ) × Session (t .reader) (streamOf pieces) lengths answers
     following-is-session pieces answers = sessions-there.followed
 
     module _ (stream lengths : List ℕ) (answers : List Answer) (session : Session (t .reader) stream lengths answers) where

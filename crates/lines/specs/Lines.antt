@@ -25,14 +25,14 @@ pub record Types (texts : List (List ℕ)) (line : List ℕ) (at : ℕ) (after :
   pub leaves : (after, place) ≡ typed texts (line, at)
 
 -- n in the fewest of up to w digits: no leading zero except as the only digit
-unfoldable pub shortest : ℕ → ℕ → List ℕ
-shortest zero n = []
-shortest (suc zero) n = withZeros 1 n
-shortest (suc (suc w)) n = cond (ltb n (10 ^ suc w)) (shortest (suc w) n) (withZeros (suc (suc w)) n)
+unfoldable pub fewestDigits : ℕ → ℕ → List ℕ
+fewestDigits zero n = []
+fewestDigits (suc zero) n = withZeros 1 n
+fewestDigits (suc (suc w)) n = cond (ltb n (10 ^ suc w)) (fewestDigits (suc w) n) (withZeros (suc (suc w)) n)
 
 -- 20 digits hold every number of 64 bits
 abbrev pub decimalText : ℕ → List ℕ
-decimalText n = shortest 20 n
+decimalText n = fewestDigits 20 n
 
 -- a space and a number
 abbrev pub spacedTexts : ℕ → List (List ℕ)

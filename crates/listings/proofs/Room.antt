@@ -23,30 +23,30 @@ use Rattle.stream_rules.specs.Rule.{Found}
 use Rattle.stream_rules.specs.Lister.{frames}
 use Rattle.pens.specs.Pens.{laid}
 use Rattle.pens.proofs.Laid.{laid-fits, laid-front, laid-behind, length-laid}
-use Rattle.lines.specs.Lines.{typedOne, typed, Types, shortest, decimalText, refusedTexts}
+use Rattle.lines.specs.Lines.{typedOne, typed, Types, fewestDigits, decimalText, refusedTexts}
 use Rattle.lines.proofs.Typed.{_then_}
 use Rattle.listings.specs.Kinds.{sentenceTexts, kindTexts}
-use Rattle.listings.specs.Listing.{headingTexts, frameTexts, inside, lastTexts, joined, printed, lineRoom}
+use Rattle.listings.specs.Listing.{headingTexts, lineTexts, inside, lastTexts, oneText, printed, lineRoom}
 
 -- Texts that have room are all laid.
-all-laid : (texts : List (List ℕ)) (line : List ℕ) (at : ℕ) → at + length (joined texts) ≤ length line
-    → typed texts (line, at) ≡ (laid at (joined texts) line, at + length (joined texts))
+all-laid : (texts : List (List ℕ)) (line : List ℕ) (at : ℕ) → at + length (oneText texts) ≤ length line
+    → typed texts (line, at) ≡ (laid at (oneText texts) line, at + length (oneText texts))
 unfolding typed typedOne flatMap
 all-laid [] line at h =
     let none : laid at [] line ≡ line = laid-fits at [] line h ∙ rw (add-zero, append-nil) (take-append-drop at line) in
     rw (none, add-zero)
 all-laid (text ∷ texts) line at h =
-    let size = length-append text (joined texts) in
+    let size = length-append text (oneText texts) in
     let kept = length-laid at text line in
     rw (le-leb (at + length text) (length line) (omega (arith, size)))
     (all-laid texts (laid at text line) (at + length text) (omega (arith, size, kept))
-    ∙ rw (laid-behind at text (joined texts) line (omega (arith, size)), size, add-assoc))
+    ∙ rw (laid-behind at text (oneText texts) line (omega (arith, size)), size, add-assoc))
 
 -- A line feed behind them makes them the line as it is printed.
-ended : (texts : List (List ℕ)) → joined (texts ++ ascii "\n" ∷ []) ≡ printed texts
+ended : (texts : List (List ℕ)) → oneText (texts ++ ascii "\n" ∷ []) ≡ printed texts
 unfolding flatMap
 ended [] = refl
-ended (text ∷ texts) = ap (λ (l : List ℕ). text ++ l) (ended texts) ∙ sym (append-assoc text (joined texts) (ascii "\n"))
+ended (text ∷ texts) = ap (λ (l : List ℕ). text ++ l) (ended texts) ∙ sym (append-assoc text (oneText texts) (ascii "\n"))
 
 -- So where a line has room with its line feed, what is laid is all of it.
 pub all-printed : (texts : List (List ℕ)) (line mid after : List ℕ) (at end : ℕ) → length (printed texts) ≤ length line
@@ -57,18 +57,18 @@ all-printed texts line mid after at end room t u =
     ap (λ (l : List ℕ × ℕ). take (l .1) (l .0)) laid-all
     ∙ rw (all, zero-add, laid-front (printed texts) line room) (take-append-seam (printed texts) (drop (length (printed texts)) line))
 
-shortest-few : (w n : ℕ) → length (shortest w n) ≤ w
-unfolding shortest
-shortest-few zero n = omega arith
-shortest-few (suc zero) n = omega (arith, zeros-length 1 n)
-shortest-few (suc (suc w)) n = case (ltb n (10 ^ suc w)) (shortest-few (suc w) n)
+fewest-few : (w n : ℕ) → length (fewestDigits w n) ≤ w
+unfolding fewestDigits
+fewest-few zero n = omega arith
+fewest-few (suc zero) n = omega (arith, zeros-length 1 n)
+fewest-few (suc (suc w)) n = case (ltb n (10 ^ suc w)) (fewest-few (suc w) n)
   where
-    case : (b : Bool) → length (shortest (suc w) n) ≤ suc w → length (cond b (shortest (suc w) n) (withZeros (suc (suc w)) n)) ≤ suc (suc w)
+    case : (b : Bool) → length (fewestDigits (suc w) n) ≤ suc w → length (cond b (fewestDigits (suc w) n) (withZeros (suc (suc w)) n)) ≤ suc (suc w)
     case true few = omega arith
     case false few = omega (arith, zeros-length (suc (suc w)) n)
 
 few-digits : (n : ℕ) → length (decimalText n) ≤ 20
-few-digits n = shortest-few 20 n
+few-digits n = fewest-few 20 n
 
 without-few : (bs : List ℕ) → length (withoutZeros bs) ≤ length bs
 unfolding withoutZeros
@@ -83,12 +83,12 @@ few-letters : (n : ℕ) → length (wordLetters n) ≤ 4
 unfolding wordLetters
 few-letters n = without-few _
 
-few-words : (ns : List ℕ) → length (joined (map wordLetters ns)) ≤ 4 * length ns
+few-words : (ns : List ℕ) → length (oneText (map wordLetters ns)) ≤ 4 * length ns
 unfolding flatMap
 few-words [] = omega arith
-few-words (n ∷ ns) = omega (arith, few-words ns, few-letters n, length-append (wordLetters n) (joined (map wordLetters ns)))
+few-words (n ∷ ns) = omega (arith, few-words ns, few-letters n, length-append (wordLetters n) (oneText (map wordLetters ns)))
 
-short-kind : (k : Kind) → length (joined (kindTexts k)) ≤ 40
+short-kind : (k : Kind) → length (oneText (kindTexts k)) ≤ 40
 unfolding kindTexts sentenceTexts flatMap withZeros
 short-kind (OfAck c) = omega arith
 short-kind OfStatus = omega arith
@@ -102,7 +102,7 @@ pub heading-room : length (printed headingTexts) ≤ lineRoom
 unfolding flatMap
 heading-room = omega arith
 
-pub frame-room : (f : Found) → length (printed (frameTexts f)) ≤ lineRoom
+pub frame-room : (f : Found) → length (printed (lineTexts f)) ≤ lineRoom
 unfolding flatMap
 frame-room f = simp length-append (omega (arith, few-digits (f .start), few-digits (f .length), few-digits (f .skipped), short-kind (kindOf (f .frame))))
 

@@ -10,13 +10,13 @@ use Rattle.rules.specs.Messages.{behind, isMessage, isBody, isBodyByte, isLette
 use Rattle.rules.specs.Answers.{readFamily1, readFamily4, readOne, readBody}
 use Rattle.stream_rules.specs.Heads.{head, undecided, spe-undecided, innerRun}
 use Rattle.stream_rules.specs.Rule.{rule}
-use Rattle.lines.specs.Lines.{shortest}
+use Rattle.lines.specs.Lines.{fewestDigits}
 use Rattle.listings.specs.Kinds.{kindTexts}
 use Rattle.listings.specs.Listing.{listingLines}
 use Rattle.listings.specs.Bench.{ListingSheet}
 
 pub sheet : ListingSheet
-unfolding listingLines kindTexts flatMap shortest withZeros hexDigit total rule head undecided spe-undecided innerRun readOne readFamily1 isStatus isAck isAckCode isCode oneOf same every decimalFrom readFamily4 readBody behind isMessage isBody isBodyByte isLetter capital letterRun wordFrom withoutZeros wordLetters asLetters isNumber statusFrame
+unfolding listingLines kindTexts flatMap fewestDigits withZeros hexDigit total rule head undecided spe-undecided innerRun readOne readFamily1 isStatus isAck isAckCode isCode oneOf same every decimalFrom readFamily4 readBody behind isMessage isBody isBodyByte isLetter capital letterRun wordFrom withoutZeros wordLetters asLetters isNumber statusFrame
 sheet = record {
   case1 = refl;
   case11 = refl;

@@ -12,7 +12,7 @@ use Rattle.rules.specs.Bytes.{part}
 use Rattle.rules.specs.declared.Frame.the-variants.{Ack}
 use Rattle.stream_rules.specs.Rule.{Found}
 use Rattle.stream_rules.specs.Lister.{frames, longestCapture, frameFrom}
-use Rattle.listings.specs.Listing.{frameTexts, frameLine, inside}
+use Rattle.listings.specs.Listing.{lineTexts, frameLine, inside}
 use Rattle.listings.specs.Tallies.{behindLast, allTallied, Onward}
 use Rattle.listings.specs.declared.table.Tally.{Tally}
 use Rattle.listings.proofs.Frames.{first, Stands, stands, given, others, between, told, end-of-more, inside-of-more}
@@ -32,7 +32,7 @@ nth fs n p =
 pub record Next (capture starts : List ℕ) (t : Tally) : Type 0 where
   pub frame : Found
   pub starts-here : getD starts (t .listed) 0 ≡ frame .start
-  pub line : frameLine (t .family) capture (t .listed) ≡ frameTexts frame
+  pub line : frameLine (t .family) capture (t .listed) ≡ lineTexts frame
   pub place : frame .start ≡ t .end + frame .skipped
   pub stands : Stands (t .family) capture (frame .start) (frame .length) (frame .frame)
   pub given : frameFrom (t .family) capture (frame .start) ≡ part (frame .start) (frame .length) capture
@@ -55,7 +55,7 @@ next capture starts t on =
     record {
       frame = f;
       starts-here = ap (λ (l : List ℕ). getD l n 0) (on .starts-all .all) ∙ told f (here .behind) (λ (g : Found). g .start) 0 fs n (here .splits);
-      line = told f (here .behind) frameTexts [] fs n (here .splits);
+      line = told f (here .behind) lineTexts [] fs n (here .splits);
       place = omega (arith, ended, x .place);
       stands = stands family capture (f .start) (f .length) (f .frame) (x .here);
       given = given family capture (f .start) (f .length) (f .frame) (on .starts-all .known) (on .starts-all .short) (x .here);

@@ -20,12 +20,12 @@ headingTexts = ascii "start length skipped kind" ∷ []
 abbrev pub numberTexts : ℕ → ℕ → ℕ → List (List ℕ)
 numberTexts start long skipped = decimalText start ∷ spacedTexts long ++ spacedTexts skipped ++ ascii " " ∷ []
 
-abbrev pub frameTexts : Found → List (List ℕ)
-frameTexts f = numberTexts (f .start) (f .length) (f .skipped) ++ kindTexts (kindOf (f .frame))
+abbrev pub lineTexts : Found → List (List ℕ)
+lineTexts f = numberTexts (f .start) (f .length) (f .skipped) ++ kindTexts (kindOf (f .frame))
 
 -- the lines of all frames, and the n-th of them
 abbrev pub frameLines : ℕ → List ℕ → List (List (List ℕ))
-frameLines family capture = map frameTexts (frames family capture)
+frameLines family capture = map lineTexts (frames family capture)
 
 abbrev pub frameLine : ℕ → List ℕ → ℕ → List (List ℕ)
 frameLine family capture n = getD (frameLines family capture) n []
@@ -49,11 +49,11 @@ listingLines family capture =
     (headingTexts ∷ frameLines family capture ++ lastTexts family capture ∷ []))
 
 -- texts one behind the other; and a line as it is printed, with a line feed behind it
-abbrev pub joined : List (List ℕ) → List ℕ
-joined texts = flatMap (λ (text : List ℕ). text) texts
+abbrev pub oneText : List (List ℕ) → List ℕ
+oneText texts = flatMap (λ (text : List ℕ). text) texts
 
 abbrev pub printed : List (List ℕ) → List ℕ
-printed texts = joined texts ++ ascii "\n"
+printed texts = oneText texts ++ ascii "\n"
 
 -- the whole text
 abbrev pub listing : ℕ → List ℕ → List ℕ

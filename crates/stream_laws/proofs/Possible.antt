@@ -17,7 +17,7 @@ use Rattle.stream_rules.specs.declared.Reader.{Reader}
 use Rattle.stream_rules.specs.declared.Answer.{Answer}
 use Rattle.stream_rules.specs.declared.Fed.{Fed}
 use Rattle.stream_rules.specs.declared.Turned.{Turned}
-use Rattle.stream_laws.specs.Sessions.{Draining, Session, Following, toOffer, joined, takenOf}
+use Rattle.stream_laws.specs.Sessions.{Draining, Session, Following, toOffer, streamOf, takenOf}
 use Rattle.stream_laws.proofs.Facts.{Facts, top-above}
 use Rattle.stream_laws.proofs.Calls.{call-gives, gives-adds-up, gives-above, gives-short, call-wants, wants-adds-up, wants-short, drain-adds-up, drain-above}
 use Rattle.stream_laws.proofs.Families.{facts}
@@ -115,17 +115,17 @@ module _ (family : ℕ) (known : isFamily family ≡ true) (have : Facts (head f
       (offer fuel (follow fuel) bytes at skipped piece pieces p few c refl)
 
 -- Each piece is what its call offers of the whole stream, so a session that follows a cut is one of the stream.
-left-of : (k : ℕ) (piece : List ℕ) (pieces : List (List ℕ)) → k ≤ length piece → joined (toOffer (drop k piece) pieces) ≡ drop k (piece ++ joined pieces)
-left-of k piece pieces within = by-rest (drop k piece) ∙ sym (drop-append-le k piece (joined pieces) within)
+left-of : (k : ℕ) (piece : List ℕ) (pieces : List (List ℕ)) → k ≤ length piece → streamOf (toOffer (drop k piece) pieces) ≡ drop k (piece ++ streamOf pieces)
+left-of k piece pieces within = by-rest (drop k piece) ∙ sym (drop-append-le k piece (streamOf pieces) within)
   where
-    by-rest : (rest : List ℕ) → joined (toOffer rest pieces) ≡ rest ++ joined pieces
+    by-rest : (rest : List ℕ) → streamOf (toOffer rest pieces) ≡ rest ++ streamOf pieces
     by-rest [] = refl
     by-rest (b ∷ rest) = refl
 
-pub followed : {r : Reader} {pieces : List (List ℕ)} {answers : List Answer} → Following r pieces answers → (lengths : List ℕ) × Session r (joined pieces) lengths answers
+pub followed : {r : Reader} {pieces : List (List ℕ)} {answers : List Answer} → Following r pieces answers → (lengths : List ℕ) × Session r (streamOf pieces) lengths answers
 followed {r} (Following.calls {pieces = pieces} {answers = answers} piece a e later) =
     let (lengths, session) = followed later in
-    let whole : take (length piece) (piece ++ joined pieces) ≡ piece = take-append-seam piece (joined pieces) in
+    let whole : take (length piece) (piece ++ streamOf pieces) ≡ piece = take-append-seam piece (streamOf pieces) in
     let left = left-of (takenOf (a .answer)) piece pieces (taken-within r piece (facts (r .family)) a e) in
     (length piece ∷ lengths, Session.calls (length piece) a (subst (λ (l : List ℕ). Feeds r l a) (sym whole) e) (subst (λ (l : List ℕ). Session (a .reader) l lengths answers) left session))
 followed (Following.closes t e later) = ([], Session.closes t e later)

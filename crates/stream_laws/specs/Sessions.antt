@@ -52,9 +52,9 @@ pub data Following : Reader → List (List ℕ) → List Answer → Type 0 where
   closes : {r : Reader} {answers : List Answer} (t : Turned) → Shuts r t → Draining (t .reader) answers → Following r [] answers
 
 -- the stream that is cut
-abbrev pub joined : List (List ℕ) → List ℕ
-joined [] = []
-joined (piece ∷ pieces) = piece ++ joined pieces
+abbrev pub streamOf : List (List ℕ) → List ℕ
+streamOf [] = []
+streamOf (piece ∷ pieces) = piece ++ streamOf pieces
 
 -- the frames that the answers hand out, with their start, the bytes skipped before them, and their length
 abbrev pub handed : List Answer → List Found

@@ -15,8 +15,8 @@ abbrev pub endings : ℕ
 endings = 2
 
 -- A run begins with all bytes to offer.
-abbrev pub whole : ℕ → Course
-whole n = record { left = n; ends = endings; closes = false }
+abbrev pub atFirst : ℕ → Course
+atFirst n = record { left = n; ends = endings; closes = false }
 
 -- Without a frame the piece is taken; where no byte is left to offer, the reader is closed, and the next time the run
 -- ends.

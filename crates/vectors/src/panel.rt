@@ -13,7 +13,7 @@ ghost use Prim.Native.Nat.{_-_};
 ghost use mathlib.Core.Path.{_≡_};
 ghost use lib.ListN.{length};
 ghost use Rattle.rules.specs.Bytes.{part};
-ghost use Rattle.vectors.specs.Courses.{piece, whole, after, afterNone};
+ghost use Rattle.vectors.specs.Courses.{piece, atFirst, after, afterNone};
 
 // How many bytes are offered at once.
 const PIECE: usize = 16;
@@ -54,7 +54,7 @@ fn print_kept(fresh: Reader, stream: &[u8]) {
 
 // All bytes are to be offered.
 fn course_of(stream: &[u8]) -> Course
-    ensures { λ c. ⌜ c ≡ whole (length (now (stream .entry))) ⌝ }
+    ensures { λ c. ⌜ c ≡ atFirst (length (now (stream .entry))) ⌝ }
 {
     Course {
         left: stream.len(),

@@ -13,7 +13,7 @@ use Rattle.stream_rules.specs.Rule.{Found}
 use Rattle.stream_rules.specs.Lister.{frameFrom}
 use Rattle.lines.specs.Lines.{Types}
 use Rattle.lines.proofs.Typed.{_then_}
-use Rattle.listings.specs.Listing.{numberTexts, frameTexts}
+use Rattle.listings.specs.Listing.{numberTexts, lineTexts}
 use Rattle.listings.specs.Parts.{partTexts}
 use Rattle.listings.proofs.Tallies.{Next, next}
 use borrow.Author.Needs.{needs}
@@ -24,7 +24,7 @@ use Rattle.listings.proofs.table.frame_line.Tie as tie
 shown : (family start skipped : ℕ) (bytes : List ℕ) (f : Found) {line after : List ℕ} {place : ℕ}
     → start ≡ f .start → length bytes ≡ f .length → skipped ≡ f .skipped → readOne family bytes ≡ Good (f .frame)
     → Types (numberTexts start (length bytes) skipped ++ partTexts family bytes) line 0 after place
-    → Types (frameTexts f) line 0 after place
+    → Types (lineTexts f) line 0 after place
 shown family start skipped bytes f a b c d typed = rw (a, b, c, d) at typed
 
 -- The next frame, where the function begins; and the bytes that are given for it.
