@@ -22,7 +22,7 @@ use Rattle.stream_rules.specs.declared.Answer.the-variants.{Ready, More, Done, 
 use Rattle.stream_rules.specs.declared.Fed.{Fed}
 use Rattle.stream_rules.specs.declared.Outcome.{Outcome}
 use Rattle.stream_rules.specs.declared.Turned.{Turned}
-use Rattle.stream_laws.specs.Sessions.{Draining, Session, streamOf, takenOf, isNoRefusal}
+use Rattle.stream_laws.specs.Sessions.{Draining, Session, Following, streamOf, takenOf, isNoRefusal}
 use Rattle.stream_laws.proofs.Families.{facts}
 use Rattle.stream_laws.proofs.Saying.{feeds, shuts, makes}
 use Rattle.stream_laws.proofs.States.{Serves, served-open, served-closed, served-shut, served-fresh, taken-within}
@@ -245,14 +245,14 @@ rows-there {r} (Session.closes t e later) s small =
     let is : t .reader ≡ shut r .reader = ap (λ (u : Turned). u .reader) (e .answers) in
     (number ∷ numbers, rows, RowSession.closes number (shut r .reader) (closing r) (subst (λ (q : Reader). RowDraining q numbers rows) is rest))
 
--- So there is one for every cut of a stream.
+-- So there is one for every cut of a stream: its calls offer as many bytes each as those of the session that follows the cut.
 pub rows-end : (family : ℕ) → isFamily family ≡ true
     → (was : Reader) (number : ℕ) (reader : Reader) → Freshens family was number reader
     → (pieces : List (List ℕ)) → length (streamOf pieces) < mostLent
-    → (lengths numbers : List ℕ) × (rows : List (List ℤ)) × RowSession reader (streamOf pieces) lengths numbers rows
+    → (answers : List Answer) × (follows : Following (fresh family .reader) pieces answers)
+    × (numbers : List ℕ) × (rows : List (List ℤ)) × RowSession reader (streamOf pieces) (followed follows .0) numbers rows
 rows-end family known was number reader freshens pieces small =
     let is : reader ≡ fresh family .reader = freshens .leaves ∙ rw known in
     let (answers, following) = possible family known (fresh family) (makes refl) pieces in
-    let (lengths, session) = followed following in
-    let (numbers, rows, there) = rows-there session (served-fresh family known .1) small in
-    (lengths, numbers, rows, subst (λ (q : Reader). RowSession q (streamOf pieces) lengths numbers rows) (sym is) there)
+    let (numbers, rows, there) = rows-there (followed following .1) (served-fresh family known .1) small in
+    (answers, following, numbers, rows, subst (λ (q : Reader). RowSession q (streamOf pieces) (followed following .0) numbers rows) (sym is) there)
