@@ -42,6 +42,7 @@ use Rattle.amp.specs.Boundary.{ReadsRow}
 use Rattle.boundary.specs.RowSessions.{rowKind, RowCall}
 use Rattle.boundary.specs.Passed.{rowCode, rowValues, valueCount, familyIn, WrittenRead, ReadsBack, WritesRecord}
 use Rattle.boundary.proofs.Counts.{counted}
+use Rattle.boundary.proofs.RowSessions.{at-front}
 use Rattle.boundary.proofs.Apart.{WasRead}
 use Rattle.boundary.proofs.Answered.{fine, shows}
 
@@ -190,11 +191,10 @@ pub read-passed-on : (family : ℕ) (bs : List ℕ) (was numbers : List ℤ) →
     × ((out : List ℕ) (before answer : ℕ) (after : List ℕ) (told : ℕ)
     → WritesGiven (natAbs (rowKind numbers)) (natAbs (rowCode numbers)) (rowValues numbers) out before answer after told
     → WritesRecord f out before answer after told)
-unfolding front
 read-passed-on family bs was numbers e =
     let h = was-read family bs 0 0 0 was 0 numbers e refl in
     let r = row 0 0 0 (length bs) (h .frame) in
-    let shown : take (length r) numbers ≡ r = ap (take (length r)) (h .stands) ∙ take-append-seam r (drop (length r) was) in
+    let shown : take (length r) numbers ≡ r = ap (take (length r)) (h .stands) ∙ at-front r was in
     (h .frame, h .is-good, λ out before answer after told. passed-on family bs (h .frame) (h .is-good) 0 0 0 (length bs) numbers shown)
 
 -- and of one that `amp_feed` laid.

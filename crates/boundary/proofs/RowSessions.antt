@@ -35,7 +35,7 @@ use Rattle.boundary.proofs.Apart.{of-frame}
 use Rattle.boundary.specs.RowSessions.{rowKind, rowTaken, mostLent, RowCall, RowDraining, RowSession, RowsOf, RowDemand3}
 
 -- what a row that stands at the front shows
-at-front : (r numbers : List ℤ) → take (length r) (front r numbers) ≡ r
+pub at-front : (r numbers : List ℤ) → take (length r) (front r numbers) ≡ r
 unfolding front
 at-front r numbers = take-append-seam r (drop (length r) numbers)
 

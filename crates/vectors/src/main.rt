@@ -4,7 +4,7 @@
 // a capture, with `r` the replay of a script, with `w` a capture walked by the capture reader, with `p` a stream run through
 // the lent reader. A line that begins with `#` is a heading and is printed as it is.
 //
-// What is printed is tested, not proved: the contracts only keep indices in range.
+// What is printed is tested, not proved: the contracts only keep indices in range and say how a run goes on.
 mod panel;
 mod walks;
 
