@@ -1,7 +1,8 @@
 /* What a C program needs of libamp.a: reading and writing the serial frames of SPE amplifiers, of the
  * Alpha 9500 and of the KPA1500. Every function is proved; crates/amp has the statements. What each gives
  * back and leaves stands in crates/amp/specs/Boundary.antt; of amp_feed in
- * crates/row_stream/specs/FedRows.antt, of the writers in crates/row_writer/specs/Given.antt.
+ * crates/row_stream/specs/FedRows.antt, of the writers in crates/row_writer/specs/Given.antt. What is assumed
+ * on processors other than x86-64 stands in docs/TARGETS.md.
  *
  * Families: 1 SPE amplifier to host, 2 Alpha 9500, 3 host to SPE amplifier, 4 KPA1500 (both ways).
  *
@@ -142,6 +143,11 @@ typedef struct amp_reader {
                         * next byte to be taken, so how many were taken so far */
     uint32_t skipped;  /* the bytes skipped since the last frame, modulo 2^32 */
 } amp_reader;
+
+/* A compiler that lays it out otherwise does not take this: the proved code knows it so. */
+typedef char amp_reader_is_laid_out_so[sizeof(amp_reader) == 144 && offsetof(amp_reader, held) == 3
+                                       && offsetof(amp_reader, at) == 136 && offsetof(amp_reader, skipped) == 140
+                                       && sizeof(int64_t) == 8 && sizeof(uint32_t) == 4 ? 1 : -1];
 
 /* Makes the lent reader a fresh one. Refusal 1. */
 uint32_t amp_fresh(amp_reader *reader, uint32_t family);

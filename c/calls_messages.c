@@ -186,6 +186,27 @@ static void listing_messages(void)
     no_next("a response is no report", 4, SLICE("^FR;^FR14050;"), 0, 1);
 }
 
+/* The most frames that a capture can have: 21,845 of three bytes. */
+#define MOST 21845u
+
+static void most_messages(void)
+{
+    static uint8_t capture[65536];
+    static uint32_t starts[MOST];
+    size_t count = 77, i;
+    int right = 1;
+
+    for (i = 0; i < MOST; i++)
+        memcpy(capture + 3 * i, "^I;", 3);
+    check(amp_list(4, capture, sizeof capture, starts, MOST - 1, &count) == AMP_NO_ROOM && count == 77,
+          "one place too few for the most frames");
+    check(amp_list(4, capture, sizeof capture, starts, MOST, &count) == 0 && count == MOST, "the most frames");
+    for (i = 0; i < MOST; i++)
+        right = right && starts[i] == 3 * i;
+    check(right, "the starts of the most frames");
+    next_is("the last of them", 4, capture, sizeof capture, 3 * MOST - 5, 0, 3, 3 * MOST - 3);
+}
+
 void message_calls(void)
 {
     check(AMP_CC_VALUES == 6 && AMP_OTHER_VALUES == 10, "values of messages");
@@ -196,4 +217,5 @@ void message_calls(void)
     out_of_range();
     no_writer();
     listing_messages();
+    most_messages();
 }

@@ -1,11 +1,11 @@
 /* Measures how much stack a call of each function needs. The call is made on a stack of its own that was
  * painted before; how far down the paint was changed is how deep the call went. Each function is
  * called with many inputs, and the deepest call counts. What a call reserves and never writes is not
- * seen, so the figures are what was used, not a proved bound.
+ * seen, so the figures are what was used; tools/footprint has the bounds, which these may not pass.
  *
  *     stack [TURNS]
  *
- * x86-64 only: changing to the painted stack takes four instructions. In a program whose C library is
+ * Changing to the painted stack takes four instructions of each processor. In a program whose C library is
  * bound at a function's first call, that call shows what the loader needs; c/build binds it before. */
 #include "amp.h"
 #include "captures.h"
@@ -77,20 +77,44 @@ static struct arguments a;
 
 typedef void call(struct arguments *);
 
-/* Makes a call on the painted stack. rbx keeps the old one, as the called function gives it back. */
+/* Makes a call on the painted stack. A register that the called function gives back keeps the old one. */
 static void call_on_painted(call *made)
 {
+#if defined(__x86_64__)
     struct arguments *first = &a;
 
-    __asm__ volatile("movq %%rsp, %%rbx\n\t"
-                     "movq %1, %%rsp\n\t"
-                     "call *%2\n\t"
-                     "movq %%rbx, %%rsp"
+    __asm__ volatile("movq %%rsp, %%rbx\n\tmovq %1, %%rsp\n\tcall *%2\n\tmovq %%rbx, %%rsp"
                      : "+D"(first)
                      : "r"(painted + STACK), "r"(made)
                      : "rbx", "rax", "rcx", "rdx", "rsi", "r8", "r9", "r10", "r11", "memory", "cc",
                        "xmm0", "xmm1", "xmm2", "xmm3", "xmm4", "xmm5", "xmm6", "xmm7", "xmm8", "xmm9",
                        "xmm10", "xmm11", "xmm12", "xmm13", "xmm14", "xmm15");
+#elif defined(__aarch64__)
+    register struct arguments *first __asm__("x0") = &a;
+
+    __asm__ volatile("mov x19, sp\n\tmov sp, %1\n\tblr %2\n\tmov sp, x19"
+                     : "+r"(first)
+                     : "r"(painted + STACK), "r"(made)
+                     : "x19", "x1", "x2", "x3", "x4", "x5", "x6", "x7", "x8", "x9", "x10", "x11", "x12", "x13",
+                       "x14", "x15", "x16", "x17", "x18", "x30", "memory", "cc", "v0", "v1", "v2", "v3", "v4",
+                       "v5", "v6", "v7", "v16", "v17", "v18", "v19", "v20", "v21", "v22", "v23", "v24", "v25",
+                       "v26", "v27", "v28", "v29", "v30", "v31");
+#elif defined(__arm__)
+    register struct arguments *first __asm__("r0") = &a;
+
+    __asm__ volatile("mov r4, sp\n\tmov sp, %1\n\tblx %2\n\tmov sp, r4"
+                     : "+r"(first)
+                     : "r"(painted + STACK), "r"(made)
+                     : "r4", "r1", "r2", "r3", "r12", "lr", "memory", "cc");
+#else
+    register struct arguments *first __asm__("a0") = &a;
+
+    __asm__ volatile("mv s1, sp\n\tmv sp, %1\n\tjalr %2\n\tmv sp, s1"
+                     : "+r"(first)
+                     : "r"(painted + STACK), "r"(made)
+                     : "s1", "ra", "a1", "a2", "a3", "a4", "a5", "a6", "a7", "t0", "t1", "t2", "t3", "t4", "t5",
+                       "t6", "memory");
+#endif
 }
 
 /* How many bytes of stack a call changed, in whole words, with its return address and what it is passed

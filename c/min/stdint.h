@@ -7,13 +7,14 @@ typedef __UINT16_TYPE__ uint16_t;
 typedef __UINT32_TYPE__ uint32_t;
 typedef __UINT64_TYPE__ uint64_t;
 typedef __INT64_TYPE__ int64_t;
+typedef __UINTPTR_TYPE__ uintptr_t;
 
-#define UINT32_C(c) c##U
-#define UINT64_C(c) c##UL
-#define INT64_C(c) c##L
-#define UINT32_MAX UINT32_C(0xFFFFFFFF)
-#define SIZE_MAX UINT64_C(0xFFFFFFFFFFFFFFFF)
-#define INT64_MAX INT64_C(0x7FFFFFFFFFFFFFFF)
+#define UINT32_C(c) __UINT32_C(c)
+#define UINT64_C(c) __UINT64_C(c)
+#define INT64_C(c) __INT64_C(c)
+#define UINT32_MAX __UINT32_MAX__
+#define SIZE_MAX __SIZE_MAX__
+#define INT64_MAX __INT64_MAX__
 #define INT64_MIN (-INT64_MAX - 1)
 
 #endif
