@@ -1,8 +1,9 @@
 /* What a C program needs of libamp.a: reading and writing the serial frames of SPE amplifiers, of the
- * Alpha 9500 and of the KPA1500. Every function is proved; crates/amp has the statements. What each gives
+ * Alpha 9500 and of the KPA1500. The functions are proved; crates/amp has the statements. What each gives
  * back and leaves stands in crates/amp/specs/Boundary.antt; of amp_feed in
- * crates/row_stream/specs/FedRows.antt, of the writers in crates/row_writer/specs/Given.antt. What is assumed
- * on processors other than x86-64 stands in docs/TARGETS.md.
+ * crates/row_stream/specs/FedRows.antt, of the writers in crates/row_writer/specs/Given.antt. On a
+ * processor whose pointers have 32 bits a file that is not proved stands before them; docs/TARGETS.md says what is
+ * assumed there.
  *
  * Families: 1 SPE amplifier to host, 2 Alpha 9500, 3 host to SPE amplifier, 4 KPA1500 (both ways).
  *
@@ -145,7 +146,9 @@ typedef struct amp_reader {
 } amp_reader;
 
 /* A compiler that lays it out otherwise does not take this: the proved code knows it so. */
-typedef char amp_reader_is_laid_out_so[sizeof(amp_reader) == 144 && offsetof(amp_reader, held) == 3
+typedef char amp_reader_is_laid_out_so[sizeof(amp_reader) == 144 && offsetof(amp_reader, family) == 0
+                                       && offsetof(amp_reader, closed) == 1 && offsetof(amp_reader, count) == 2
+                                       && offsetof(amp_reader, held) == 3
                                        && offsetof(amp_reader, at) == 136 && offsetof(amp_reader, skipped) == 140
                                        && sizeof(int64_t) == 8 && sizeof(uint32_t) == 4 ? 1 : -1];
 

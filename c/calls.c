@@ -422,6 +422,7 @@ int main(void)
     next();
     stream_calls();
     message_calls();
+    length_calls();
     writing();
     spoiled_values();
     spoiled_commas();

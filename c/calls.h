@@ -1,4 +1,4 @@
-/* What calls.c, calls_streams.c and calls_messages.c share: known bytes and their values, a lent row, and the
+/* What calls.c, calls_streams.c, calls_messages.c and calls_lengths.c share: known bytes and their values, a lent row, and the
  * checks. */
 #ifndef CALLS_H
 #define CALLS_H
@@ -82,8 +82,9 @@ void writes(const char *what, uint32_t kind, uint32_t code, const int64_t *value
 void does_not_write(const char *what, uint32_t kind, uint32_t code, const int64_t *values,
                     size_t many, size_t room, uint32_t number);
 
-/* The checks of streams, and those of the KPA1500. */
+/* The checks of streams, those of the KPA1500, and those of large lengths. */
 void stream_calls(void);
 void message_calls(void);
+void length_calls(void);
 
 #endif

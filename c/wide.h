@@ -19,13 +19,10 @@ uint32_t amp_wide_write(uint32_t kind, uint32_t code, const int64_t *values, uin
 uint32_t amp_wide_write_enable(uint8_t *out, uint64_t out_len, uint64_t *length);
 uint32_t amp_wide_stamp_order(uint32_t a, uint32_t b);
 
-/* What the proved code takes for granted of the memory that it is lent, on every processor. */
-_Static_assert(sizeof(amp_reader) == 144 && _Alignof(amp_reader) == 4, "a reader is 144 bytes, as wide as 4");
-_Static_assert(offsetof(amp_reader, family) == 0 && offsetof(amp_reader, closed) == 1, "its first bytes");
-_Static_assert(offsetof(amp_reader, count) == 2 && offsetof(amp_reader, held) == 3, "and the held ones");
-_Static_assert(offsetof(amp_reader, at) == 136 && offsetof(amp_reader, skipped) == 140, "its two counts");
-_Static_assert(sizeof(int64_t) == 8 && _Alignof(int64_t) == 8, "a place of a row is 8 bytes, and stands at a multiple");
-_Static_assert(sizeof(uint32_t) == 4 && _Alignof(uint32_t) == 4, "a start is 4 bytes");
+/* What the proved code takes for granted of the memory that it is lent, beside what amp.h says of it. */
+_Static_assert(_Alignof(amp_reader) == 4, "a reader stands at a multiple of 4");
+_Static_assert(_Alignof(int64_t) == 8, "a place of a row at a multiple of 8");
+_Static_assert(_Alignof(uint32_t) == 4, "a start at a multiple of 4");
 _Static_assert(sizeof(size_t) == 4 && sizeof(void *) == 4, "this is for pointers of 32 bits");
 _Static_assert(__BYTE_ORDER__ == __ORDER_LITTLE_ENDIAN__, "a number begins with its lowest byte");
 

@@ -3,10 +3,10 @@
 The bound of a function's stack is its own frame and the deepest of what it calls, and so on, but for the functions that
 the firmware brings. Frames are the compiler's own figures (-fstack-usage); on x86-64 these leave out three things, which
 are added: where a call comes from, the arguments that a call pushes, and what a function that calls none may use below
-its frame. What a function calls is read from the object: each function has a section of its own there,
+its frame. The arguments of an exported function are its caller's. What a function calls is read from the object: each function has a section of its own there,
 so that whatever refers to another one does so by a relocation, and every such reference is taken for a call. So nothing
 is left out, a call by a pointer neither. It fails on a frame that is not constant, on a function without a figure, and on
-one that could call itself."""
+one that could call itself; since a call of itself needs no relocation, that is seen in the intermediate code."""
 import os
 import re
 import struct
@@ -14,7 +14,7 @@ import sys
 
 FUNCTIONS = ["amp_feed", "amp_read", "amp_next", "amp_list", "amp_write", "amp_close", "amp_fresh", "amp_stamp_order",
              "amp_write_enable"]
-FIRMWARES = {"whole": "all nine functions", "reader": "a reader: fresh, feed, close", "frame": "one frame: read",
+FIRMWARES = {"whole": "all nine functions", "reader": "a reader: fresh, feed, close", "read": "one frame: read",
              "lister": "the lister: list, next", "writers": "the writers: write, write_enable"}
 GROWTH = 20  # a figure may be larger than what is written by one part in so many
 BESIDE = 128
@@ -83,12 +83,28 @@ class Object:
         return sum(s[5] for s in self.sections if s[2] & WRITTEN)
 
 
+def calls_itself(path):
+    """The first function of the intermediate code that could call itself, by whatever way; or None."""
+    calls, function = {}, ""
+    with open(path, encoding="utf-8") as file:
+        for line in file:
+            if m := re.match(r'define .*?@("?[\w:]+"?)\(', line):
+                function = m[1]
+                calls[function] = set()
+            elif m := re.match(r'  .*call \S+ @("[\w:]+")\(', line):
+                calls[function].add(m[1])
+    # a function whose calls are all gone can't; take those away until none is left that can be
+    while gone := {name for name, called in calls.items() if not called & calls.keys()}:
+        calls = {name: called for name, called in calls.items() if name not in gone}
+    return next(iter(calls), None)
+
+
 def pushed(path):
     """What a call of each function pushes on x86-64: where it came from, and arguments that have no register."""
     found = {}
     with open(path, encoding="utf-8") as file:
         for line in file:
-            if m := re.match(r'define .*?@"?([\w:]+)"?\((.*)\)', line):
+            if m := re.match(r'define .*?@"?([\w:.]+)"?\((.*)\)', line):
                 beyond = max(0, m[2].count("%") - REGISTERS)
                 found[m[1]] = WORD + (beyond + 1) // 2 * 2 * WORD
     return found
@@ -111,6 +127,8 @@ class Stack:
 
     def __init__(self, folder):
         self.frames, self.calls, self.outside, self.pushed, self.below = {}, {}, set(), {}, 0
+        if circle := calls_itself(f"{folder}/amp.ll"):
+            raise SystemExit(f"{circle} could call itself, or one that does")
         if os.path.exists(f"{folder}/optimized.ll"):
             self.pushed, self.below = pushed(f"{folder}/optimized.ll"), BELOW
         for name in ("module", "narrow"):
@@ -132,17 +150,23 @@ class Stack:
     def in_tables(self, code, inside, target):
         """A table may lead back to the function that it belongs to, and to no other."""
         name, own = code.names[inside], code.function_in(target)
-        if code.sections[inside][2] & ALLOCATED and code.is_code(target) and not name.endswith(own):
+        allowed = name in (f".rodata.{own}", f".ARM.exidx.text.{own}")
+        if code.sections[inside][2] & ALLOCATED and code.is_code(target) and not allowed:
             raise SystemExit(f"{name} refers to {own}")
+
+    def passed(self, function, is_exported):
+        """What a call of the function pushes before its frame begins."""
+        if not self.pushed:
+            return 0
+        return WORD if is_exported else self.pushed[function]
 
     def bound(self, function, above=()):
         if function in self.outside:
-            return 0
-        if function in above or function not in self.frames:
+            return self.below
+        if function in above or function not in self.frames or self.pushed and function not in self.pushed:
             raise SystemExit(f"{function} has no frame, or calls itself")
-        calls = self.calls.get(function, ())
-        deepest = max((self.bound(called, (*above, function)) for called in calls), default=self.below)
-        return self.pushed.get(function, 0) + self.frames[function] + deepest
+        deepest = max((self.bound(called, (*above, function)) for called in self.calls.get(function, ())), default=self.below)
+        return self.passed(function, not above) + self.frames[function] + deepest
 
 
 def measured(targets):
@@ -194,15 +218,17 @@ def written(path):
 
 
 def too_deep(targets, figures):
-    """Where a call was seen to use more than its bound, if c/stack.c was run; the call itself, what it passes and what
-    the firmware's functions use of the stack is not in the bound, and has to be less than BESIDE bytes."""
+    """Where a call was seen to use more than its bound, as c/stack.c told. What passes the arguments, and what the
+    firmware's functions use, is not in the bound; together it has to be less than BESIDE bytes."""
     for target in targets:
         path = f"target/board/{target}/stack.said"
-        if os.path.exists(path):
-            with open(path, encoding="utf-8") as file:
-                for function, seen, _ in (line.split() for line in file if line.startswith("amp_")):
-                    if int(seen) >= figures["Stack", f"`amp::{function}`", target] + BESIDE:
-                        yield f"{function} was seen to use {seen} bytes of stack on {target}"
+        if not os.path.exists(path):
+            yield f"the stack was not measured on {target}"
+            continue
+        with open(path, encoding="utf-8") as file:
+            for function, seen, _ in (line.split() for line in file if line.startswith("amp_")):
+                if int(seen) >= figures["Stack", f"`amp::{function}`", target] + BESIDE:
+                    yield f"{function} was seen to use {seen} bytes of stack on {target}"
 
 
 def main():
