@@ -6,7 +6,7 @@ use mathlib.Core.Bool.{Bool, true, false, ◌&&◌, and-false}
 use mathlib.Core.List.{List, ◌∷◌, ◌++◌}
 use mathlib.Core.Logic.{⊎_elim}
 use native.Mathlib.Omega.{arith}
-use lib.ListN.{length, take, drop, get_or, length-drop, take-append-drop}
+use lib.ListN.{length, drop, get_or, length-drop, take-append-drop}
 use lib.Seq.{length-take-le, take_all, drop-drop, get_or_at}
 use borrow.Author.Tests.{lt-leb}
 use Rattle.rules.specs.Bytes.{part, between, same, every}

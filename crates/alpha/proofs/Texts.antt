@@ -20,18 +20,10 @@ use Rattle.texts.proofs.Steps.{at as from_place}
 use Rattle.checksums.specs.Hex.{pair_in}
 use Rattle.checksums.specs.declared.hexadecimal.HexByte.{HexByte}
 use Rattle.texts.specs.Commas.{to_comma, text_at, end_at}
-use Rattle.texts.proofs.FieldEnds.{at_end, at_field, end_within, text_length}
+use Rattle.texts.proofs.FieldEnds.{at_field, end_within, text_length}
 use Rattle.alpha.specs.Fields.{Text, FieldAt, hex_value}
 
 module _ {A : Type 0} {test : Text → Bool} {value : Text → A} {r : List ℕ} {a : ℕ} where
-  -- at the end of the bytes there is no field
-  pub absent : {v : A} {end : ℕ} → length r ≤ a → FieldAt test value r a false v end
-  absent h = record {
-    told = rw (at_end r a h);
-    read = λ e. absurd (false≢true e);
-    rest = λ e. absurd (false≢true e);
-  }
-
   failed : {v : A} {end : ℕ} → a < length r → test (text_at a r) ≡ false → FieldAt test value r a false v end
   failed h e = record {
     told = rw (at_field r a h) (sym e);

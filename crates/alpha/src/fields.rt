@@ -8,7 +8,7 @@ ghost use Rattle.alpha.specs.Fields.{FieldAt, FieldsAt, hex_value};
 ghost use Rattle.alpha.specs.Values.{degrees_in};
 
 // A decimal field: its number, and where it ends.
-#[derive(Drop)]
+#[derive(Clone, Copy)]
 pub(crate) struct DecimalField {
     pub good: bool,
     pub count: u32,
@@ -16,6 +16,7 @@ pub(crate) struct DecimalField {
 }
 
 // The decimal field of at most w digits whose comma stands at place a.
+#[tactic(auto, using(crate::proofs::Texts::decimal_too_wide, texts::proofs::FieldEnds::end_within))]
 fn decimal_at(r: &[u8], a: usize, w: usize) -> DecimalField
     requires { w ≤ 9 }
     ensures { FieldAt (is_decimal w) decimal r.now a result.good result.count result.end }
@@ -42,7 +43,7 @@ fn decimal_at(r: &[u8], a: usize, w: usize) -> DecimalField
 }
 
 // Decimal fields: their numbers, and where the last one ends.
-#[derive(Drop)]
+#[derive(Clone, Copy)]
 pub(crate) struct DecimalRow {
     pub good: bool,
     pub numbers: [u32; 13],
@@ -78,7 +79,7 @@ pub(crate) fn decimals(r: &[u8], widths: &[usize]) -> DecimalRow
 }
 
 // A field of two hexadecimal digits: the byte that they give, and where it ends.
-#[derive(Drop)]
+#[derive(Clone, Copy)]
 pub(crate) struct HexField {
     pub good: bool,
     pub value: u8,
@@ -86,6 +87,7 @@ pub(crate) struct HexField {
 }
 
 // The field of two hexadecimal digits whose comma stands at place a.
+#[tactic(auto, using(crate::proofs::Texts::hex_no_pair, texts::proofs::FieldEnds::end_within))]
 fn hex_at(r: &[u8], a: usize) -> HexField
     ensures { FieldAt is_hex_field hex_value r.now a result.good result.value result.end }
 {
@@ -111,7 +113,7 @@ fn hex_at(r: &[u8], a: usize) -> HexField
 }
 
 // Fields of two hexadecimal digits: their bytes, and where the last one ends.
-#[derive(Drop)]
+#[derive(Clone, Copy)]
 pub(crate) struct HexRow {
     pub good: bool,
     pub bytes: [u8; 7],
@@ -146,7 +148,7 @@ pub(crate) fn hexes(r: &[u8]) -> HexRow
 }
 
 // A temperature in tenths: 0 where the text is none.
-#[derive(Drop)]
+#[derive(Clone, Copy)]
 pub(crate) struct Degrees {
     pub good: bool,
     pub tenths: i32,
@@ -187,7 +189,7 @@ fn degrees_in(t: &[u8]) -> Degrees
 }
 
 // A field with a temperature: its tenths, and where it ends.
-#[derive(Drop)]
+#[derive(Clone, Copy)]
 pub(crate) struct DegreesField {
     pub good: bool,
     pub tenths: i32,
@@ -195,6 +197,7 @@ pub(crate) struct DegreesField {
 }
 
 // The temperature whose comma stands at place a.
+#[tactic(auto, using(texts::proofs::FieldEnds::end_within))]
 pub(crate) fn degrees_at(r: &[u8], a: usize) -> DegreesField
     ensures { FieldAt is_temperature temperature r.now a result.good result.tenths result.end }
 {

@@ -1,4 +1,6 @@
 // Reads one sentence of the Alpha 9500, as a whole.
+#![tactic(auto)]
+
 mod fields;
 mod full;
 mod numbered;
@@ -13,6 +15,7 @@ ghost use Rattle.alpha.specs.Payloads.{is_checked};
 use rules::{Frame, LONGEST_SENTENCE, NOT_GOOD, Reading, SHORTEST_SENTENCE};
 
 // The record of a good sentence, its number where it has none, or the refusal 8.
+#[tactic(auto, using(crate::proofs::Frames::long_enough))]
 pub fn read_sentence(s: &[u8]) -> Reading
     ensures { Reads sentences s.now result }
 {
@@ -24,6 +27,7 @@ pub fn read_sentence(s: &[u8]) -> Reading
 
 // Whether the bytes are, as a whole, a good sentence. One at full width is told by its bounds; of any
 // other the fields are read.
+#[tactic(auto, using(crate::proofs::Frames::long_enough))]
 pub fn is_sentence(s: &[u8]) -> bool
     ensures { result ≡ is_good (read_family2 s.now) }
 {

@@ -1,4 +1,4 @@
--- What the proofs of the writers share: signs, rows of decimal fields, the frame, and ranges.
+-- What the proofs of the writers share: temperatures, rows of decimal fields, the frame, and ranges.
 pub mod Signs
 pub mod Decimals
 pub mod Sentence

@@ -1,5 +1,7 @@
 // Writers of the Alpha's sentences, and of the bytes that enable it. Each writes into the lent
 // output's front, or refuses and leaves it as it was.
+#![tactic(auto)]
+
 ghost use Rattle.std.specs.Prelude.{◌≡◌, true, ◌+◌, ◌*◌, ◌≤◌, ◌<◌, nat_abs, length, take};
 ghost use Rattle.rules.specs.Answers.{Writes, no_record, no_room};
 ghost use Rattle.rules.specs.Bytes.{part};
@@ -140,6 +142,7 @@ fn put_hex_field(out: &mut [u8], at: usize, n: u8)
 }
 
 // The first four fields, each of two nibbles.
+#[tactic(auto, using(crate::proofs::Ranges::nibbles05))]
 fn lay_nibbles(r: Sentence05, out: &mut [u8])
     requires { (in_range05 r ≡ true) × (32 ≤ length out.old) }
     ensures { out.new ≡ laid 6 (commas (take 4 (texts05 r))) out.old }

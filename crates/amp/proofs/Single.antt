@@ -1,5 +1,5 @@
 -- Each promise of the boundary leaves one number and one content of the lent memory: two results that meet it are equal. Of
--- an answer that is laid as a row it is `lays-single`. Assumes nothing.
+-- an answer that is laid as a row it is `lays_single`. Assumes nothing.
 use Prim.Native.Nat.{ℕ}
 use mathlib.Core.Path.{◌≡◌, sym, ◌∙◌}
 use mathlib.Core.List.{List}

@@ -3,6 +3,8 @@
 // them that of a refusal or 0, and leaves the rest in memory that is lent to it. Those on a lent
 // reader are thin over calls by value, except the one that feeds it: there the reader is altered where it
 // stands.
+#![tactic(auto)]
+
 ghost use Rattle.std.specs.Prelude.{◌≡◌, true, cond, leb};
 ghost use Rattle.stream_rules.specs.Streams.{said_to_turn};
 ghost use Rattle.stream_rules.specs.Lister.{order};
@@ -16,7 +18,7 @@ ghost use Rattle.amp.specs.Boundary.{Freshens, Closes, ReadsRow, ListsStarts, Ne
 use stream_rules::{Listed, Order, Outcome, Reader};
 
 // A reader after a call, and the number that the call gives.
-#[derive(Drop)]
+#[derive(Clone, Copy)]
 struct After {
     reader: Reader,
     number: u32,
@@ -76,8 +78,7 @@ fn closed(reader: Reader) -> After
 }
 
 // Makes the lent reader a fresh one of a family.
-#[unsafe(no_mangle)]
-pub extern "C" fn amp_fresh(reader: &mut Reader, family: u32) -> u32
+pub fn amp_fresh(reader: &mut Reader, family: u32) -> u32
     ensures { Freshens family reader.old result reader.new }
 {
     let was = *reader;
@@ -88,8 +89,7 @@ pub extern "C" fn amp_fresh(reader: &mut Reader, family: u32) -> u32
 
 // Offers bytes to the lent reader, and lays the row of what it answers. The reader's held places are lent on
 // and altered where they stand; where the call is refused, what is stored is what stood there.
-#[unsafe(no_mangle)]
-pub extern "C" fn amp_feed(reader: &mut Reader, offered: &[u8], numbers: &mut [i64]) -> u32
+pub fn amp_feed(reader: &mut Reader, offered: &[u8], numbers: &mut [i64]) -> u32
     ensures { FeedsRow reader.old offered.now numbers.old result reader.new numbers.new }
 {
     let counts = row_stream::feed_row(
@@ -109,8 +109,7 @@ pub extern "C" fn amp_feed(reader: &mut Reader, offered: &[u8], numbers: &mut [i
 }
 
 // Closes the lent reader.
-#[unsafe(no_mangle)]
-pub extern "C" fn amp_close(reader: &mut Reader) -> u32
+pub fn amp_close(reader: &mut Reader) -> u32
     ensures { Closes reader.old result reader.new }
 {
     let was = *reader;
@@ -120,21 +119,14 @@ pub extern "C" fn amp_close(reader: &mut Reader) -> u32
 }
 
 // Reads one frame, and lays its row.
-#[unsafe(no_mangle)]
-pub extern "C" fn amp_read(family: u32, bytes: &[u8], numbers: &mut [i64]) -> u32
+pub fn amp_read(family: u32, bytes: &[u8], numbers: &mut [i64]) -> u32
     ensures { ReadsRow family bytes.now numbers.old result numbers.new }
 {
     rows::read_row(family_byte(family), bytes, 0, 0, 0, numbers)
 }
 
 // The starts of the frames in a capture, and how many there are.
-#[unsafe(no_mangle)]
-pub extern "C" fn amp_list(
-    family: u32,
-    capture: &[u8],
-    starts: &mut [u32],
-    count: &mut usize,
-) -> u32
+pub fn amp_list(family: u32, capture: &[u8], starts: &mut [u32], count: &mut usize) -> u32
     ensures { ListsStarts family capture.now starts.old count.old result starts.new count.new }
 {
     match lister::list_frames(family_byte(family), capture, starts) {
@@ -147,14 +139,7 @@ pub extern "C" fn amp_list(
 }
 
 // The next frame of a capture from a place on: its length, and its start where there is one.
-#[unsafe(no_mangle)]
-pub extern "C" fn amp_next(
-    family: u32,
-    capture: &[u8],
-    place: usize,
-    reports: u32,
-    start: &mut usize,
-) -> usize
+pub fn amp_next(family: u32, capture: &[u8], place: usize, reports: u32, start: &mut usize) -> usize
     ensures { Nexts family capture.now place reports start.old result start.new }
 {
     let span = captures::find(family_byte(family), capture, place, reports != 0);
@@ -166,8 +151,7 @@ pub extern "C" fn amp_next(
 }
 
 // How stamp a stands to stamp b.
-#[unsafe(no_mangle)]
-pub extern "C" fn amp_stamp_order(a: u32, b: u32) -> u32
+pub fn amp_stamp_order(a: u32, b: u32) -> u32
     ensures { result ≡ order_number (order a b) }
 {
     match starts::stamp_order(a, b) {
@@ -179,22 +163,14 @@ pub extern "C" fn amp_stamp_order(a: u32, b: u32) -> u32
 }
 
 // Writes the frame of a kind, a code and values, and tells its length.
-#[unsafe(no_mangle)]
-pub extern "C" fn amp_write(
-    kind: u32,
-    code: u32,
-    values: &[i64],
-    out: &mut [u8],
-    length: &mut usize,
-) -> u32
+pub fn amp_write(kind: u32, code: u32, values: &[i64], out: &mut [u8], length: &mut usize) -> u32
     ensures { WritesGiven kind code values.now out.old length.old result out.new length.new }
 {
     row_writer::write_given(kind, code, values, out, length)
 }
 
 // Writes the bytes that enable the Alpha, and tells their length.
-#[unsafe(no_mangle)]
-pub extern "C" fn amp_write_enable(out: &mut [u8], length: &mut usize) -> u32
+pub fn amp_write_enable(out: &mut [u8], length: &mut usize) -> u32
     ensures { WritesNumbers true no_room enable_bytes out.old length.old result out.new length.new }
 {
     row_writer::write_enable_given(out, length)

@@ -12,7 +12,7 @@ use lib.Dec.{eqb, leb}
 use lib.IntN.{ℤ, pos, nat_abs}
 use lib.ListN.{length, take, drop, take-append-drop}
 use lib.Seq.{take-append_seam}
-use Rattle.rules.specs.Answers.{read_one, family_of, kind_of, values, allowed, bytes_of, has_writer, not_allowed, written}
+use Rattle.rules.specs.Answers.{read_one, family_of, kind_of, values, allowed, bytes_of, has_writer, not_allowed}
 use Rattle.rules.specs.Messages.{message_in_range, message_bytes}
 use Rattle.rules.specs.declared.Kind.{Kind}
 use Rattle.rules.specs.declared.Kind.TheVariants.{OfAck, OfStatus, OfCommand, OfSentence, OfQuestion, OfResponse, OfLetters}

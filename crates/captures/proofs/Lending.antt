@@ -1,10 +1,10 @@
 -- A capture reader in a local, in a walk: it is made by `reader_at`, lent to `next` by `&mut` for a lifetime that is made
 -- for the call, and taken back at the reader that `next` leaves. What it owns of the capture stays with it.
---     lends-reader      the local's cell, what the reader owns and the capture's token are given up for what `next` asks
---     takes-reader      what `next` leaves gives them back, at the reader that is left, beside the part that it gives
+--     lends_reader      the local's cell, what the reader owns and the capture's token are given up for what `next` asks
+--     takes_reader      what `next` leaves gives them back, at the reader that is left, beside the part that it gives
 -- `next` asks that the capture's lifetime outlive the loan's. So the loan's is the meet of a new lifetime with the
--- capture's: its token is made of a part of the new one's and of half of the capture's (`tok-make`), and after the call
--- both are had whole again (`tok-back`).
+-- capture's: its token is made of a part of the new one's and of half of the capture's (`tok_make`), and after the call
+-- both are had whole again (`tok_back`).
 -- Assumes nothing.
 use mathlib.Core.Path.{◌≡◌, refl}
 use Prim.Native.Nat.{ℕ, ◌<◌, ◌^◌}
@@ -12,8 +12,8 @@ use mathlib.Core.Bool.{Bool}
 use mathlib.Core.List.{List, [], ◌∷◌, ◌++◌}
 use lib.ListN.{length}
 use seplogic.Ra.Ura.{Ura}
-use seplogic.Ra.TreeShare.PosShare
-use seplogic.Ra.TreeShare.{full_share}
+use base.Share
+use base.Fraction.{full_share}
 use mir.Syntax.{named, erased, w8, w64}
 use mir.Val.{Val, vint, vbool, vptr}
 use base.Logic.{SProp, ent, sep, wand, apply∗, snd∗, ex_e, id⊢}
@@ -30,7 +30,7 @@ use denote.RattleType.{RattleType}
 use denote.Laws.{Is, shows}
 use denote.Lend.{lends_ref, ref_back}
 use denote.Memory.{mem, cell_at, part_at, part_of}
-use denote.Plain.{uint_Makes, bool_Makes}
+use denote.Plain.{uint_row_laws, uint_Makes, bool_Makes}
 use denote.Builtin.{u8, usize, bool}
 use denote.Ref.{Bor, MutBor, NamedLft, MutRef}
 use denote.Slice.{slice_val, ShrSlice, shr_slice_copy}
@@ -76,19 +76,19 @@ module _ {M : Type 1} {𝓤 : Ura M} (𝓛 : Logic 𝓤) (κ : Lft) where
   open 𝓛 use {H, A}
 
   abbrev pub Owed : Share → ℕ → SProp 𝓤
-  Owed q ν = wand 𝓤 (A.lft (ν ∷ []) (PosShare.left q)) (A.lft (ν ∷ []) full_share)
+  Owed q ν = wand 𝓤 (A.lft (ν ∷ []) (Share.left q)) (A.lft (ν ∷ []) full_share)
 
-  tok_make : (q : Share) (ν : ℕ) → ent 𝓤 (sep 𝓤 (A.lft (ν ∷ []) full_share) (A.lft κ q)) (sep 𝓤 (A.lft (within ν κ) (PosShare.left q)) (sep 𝓤 (A.lft κ (PosShare.right q)) (Owed q ν)))
+  tok_make : (q : Share) (ν : ℕ) → ent 𝓤 (sep 𝓤 (A.lft (ν ∷ []) full_share) (A.lft κ q)) (sep 𝓤 (A.lft (within ν κ) (Share.left q)) (sep 𝓤 (A.lft κ (Share.right q)) (Owed q ν)))
   tok_make q ν =
-      qed 𝓛 (‵ (flft (ν ∷ []) full_share) ∷ ‵ (flft κ q) ∷ []) ∵ use1 𝓛 (‵ (flft (ν ∷ []) (PosShare.left q)) ⊛ raw (Owed q ν)) (𝓛.lfts.lft_carve ν (PosShare.left q)) $ split ! $
-      move ! (2 ∷ []) $ use1 𝓛 (‵ (flft κ (PosShare.left q)) ⊛ ‵ (flft κ (PosShare.right q))) (𝓛.lfts.lft_split κ q) $ split ! $
-      move ! (2 ∷ 0 ∷ []) $ use2 𝓛 (‵ (flft (within ν κ) (PosShare.left q))) (𝓛.lfts.lft_meet (ν ∷ []) κ (PosShare.left q)) $ done !
+      qed 𝓛 (‵ (flft (ν ∷ []) full_share) ∷ ‵ (flft κ q) ∷ []) ∵ use1 𝓛 (‵ (flft (ν ∷ []) (Share.left q)) ⊛ raw (Owed q ν)) (𝓛.lfts.lft_carve ν (Share.left q)) $ split ! $
+      move ! (2 ∷ []) $ use1 𝓛 (‵ (flft κ (Share.left q)) ⊛ ‵ (flft κ (Share.right q))) (𝓛.lfts.lft_split κ q) $ split ! $
+      move ! (2 ∷ 0 ∷ []) $ use2 𝓛 (‵ (flft (within ν κ) (Share.left q))) (𝓛.lfts.lft_meet (ν ∷ []) κ (Share.left q)) $ done !
 
-  tok_back : (q : Share) (ν : ℕ) → ent 𝓤 (sep 𝓤 (A.lft (within ν κ) (PosShare.left q)) (sep 𝓤 (A.lft κ (PosShare.right q)) (Owed q ν))) (sep 𝓤 (A.lft (ν ∷ []) full_share) (A.lft κ q))
+  tok_back : (q : Share) (ν : ℕ) → ent 𝓤 (sep 𝓤 (A.lft (within ν κ) (Share.left q)) (sep 𝓤 (A.lft κ (Share.right q)) (Owed q ν))) (sep 𝓤 (A.lft (ν ∷ []) full_share) (A.lft κ q))
   tok_back q ν =
-      qed 𝓛 (‵ (flft (within ν κ) (PosShare.left q)) ∷ ‵ (flft κ (PosShare.right q)) ∷ raw (Owed q ν) ∷ []) ∵
-      use1 𝓛 (‵ (flft (ν ∷ []) (PosShare.left q)) ⊛ ‵ (flft κ (PosShare.left q))) (𝓛.lfts.lft_unmeet (ν ∷ []) κ (PosShare.left q)) $ split ! $
-      move ! (0 ∷ 3 ∷ []) $ use2 𝓛 (‵ (flft (ν ∷ []) full_share)) (apply∗ 𝓤 (A.lft (ν ∷ []) (PosShare.left q)) (A.lft (ν ∷ []) full_share)) $ frame ! $ by ! (𝓛.lfts.lft_join κ q)
+      qed 𝓛 (‵ (flft (within ν κ) (Share.left q)) ∷ ‵ (flft κ (Share.right q)) ∷ raw (Owed q ν) ∷ []) ∵
+      use1 𝓛 (‵ (flft (ν ∷ []) (Share.left q)) ⊛ ‵ (flft κ (Share.left q))) (𝓛.lfts.lft_unmeet (ν ∷ []) κ (Share.left q)) $ split ! $
+      move ! (0 ∷ 3 ∷ []) $ use2 𝓛 (‵ (flft (ν ∷ []) full_share)) (apply∗ 𝓤 (A.lft (ν ∷ []) (Share.left q)) (A.lft (ν ∷ []) full_share)) $ frame ! $ by ! (𝓛.lfts.lft_join κ q)
 
   -- the local's cell and what the struct owns: the struct lies there
   cell_in : (h : CaptureReader) (u : Val) (l : ℕ) → ent 𝓤 (sep 𝓤 (H.at full_share (T'.mir erased) l 0 u) (sem 𝓛 ((R κ).own_val h (u ∷ [])))) (sem 𝓛 (part_at (R κ) full_share h l 0))
@@ -130,7 +130,7 @@ module _ {M : Type 1} {𝓤 : Ura M} (𝓛 : Logic 𝓤) (at_mem : Memory → SP
 
     pub goes_reader_at : n < 2 ^ 64 → ent 𝓤 (sep 𝓤 (sem 𝓛 Own) (A.lft κ q)) (sep 𝓤 ((ReaderAt 𝓛 at_mem run).pre to_reader_at) (sem 𝓛 Own))
     goes_reader_at n_fits =
-        qed 𝓛 (‵ Own ∷ ‵ (flft κ q) ∷ []) ∵ use1 𝓛 (‵ Own ⊛ ‵ Own) ((shr_slice_copy 𝓛 (named 0) κ u8).twice s (v ∷ [])) $ split ! $
+        qed 𝓛 (‵ Own ∷ ‵ (flft κ q) ∷ []) ∵ use1 𝓛 (‵ Own ⊛ ‵ Own) ((shr_slice_copy 𝓛 (named 0) κ u8 (uint_row_laws w8)).twice s (v ∷ [])) $ split ! $
         nothing ! $ move ! (3 ∷ 0 ∷ []) $ join ! $ nothing ! $ owned ! usize (Is usize) (uint_Makes 𝓛 w64) n _ (refl, n_fits) $ fjoin ! $ move ! (2 ∷ 0 ∷ []) $ fjoin ! $
         move ! (1 ∷ 0 ∷ []) $ join ! $ nothing ! $ move ! (1 ∷ 0 ∷ []) $ join ! $ frame ! $ done !
 
@@ -140,12 +140,12 @@ module _ {M : Type 1} {𝓤 : Ura M} (𝓛 : Logic 𝓤) (at_mem : Memory → SP
   -- `next`, on the reader h in the local l, lent for the lifetime ν under the name δ
   module _ (f : ℕ) (t : Bool) (h : CaptureReader) (ν l : ℕ) (δ : GName) where
     abbrev pub to_next : (Next 𝓛 at_mem run).Ghost
-    to_next = (((within ν κ, (κ, tt)), (PosShare.left q, (PosShare.right q, tt)), (meet_⊑_right (ν ∷ []) κ, tt), (local_reader h l δ, (f, (t, tt))), (vptr l 0 ∷ [], (vint w8 f ∷ [], (vbool t ∷ [], tt)))), tt)
+    to_next = (((within ν κ, (κ, tt)), (Share.left q, (Share.right q, tt)), (meet_⊑_right (ν ∷ []) κ, tt), (local_reader h l δ, (f, (t, tt))), (vptr l 0 ∷ [], (vint w8 f ∷ [], (vbool t ∷ [], tt)))), tt)
 
     goes_next : f < 2 ^ 8
-        → ent 𝓤 (sep 𝓤 (A.lft (within ν κ) (PosShare.left q)) (sep 𝓤 (A.lft κ (PosShare.right q)) (sem 𝓛 ((MutRef (named 0) (within ν κ) (R κ)).own_val (local_reader h l δ) (vptr l 0 ∷ []))))) ((Next 𝓛 at_mem run).pre to_next)
+        → ent 𝓤 (sep 𝓤 (A.lft (within ν κ) (Share.left q)) (sep 𝓤 (A.lft κ (Share.right q)) (sem 𝓛 ((MutRef (named 0) (within ν κ) (R κ)).own_val (local_reader h l δ) (vptr l 0 ∷ []))))) ((Next 𝓛 at_mem run).pre to_next)
     goes_next f_fits =
-        qed 𝓛 (‵ (flft (within ν κ) (PosShare.left q)) ∷ ‵ (flft κ (PosShare.right q)) ∷ ‵ ((MutRef (named 0) (within ν κ) (R κ)).own_val (local_reader h l δ) (vptr l 0 ∷ [])) ∷ []) ∵
+        qed 𝓛 (‵ (flft (within ν κ) (Share.left q)) ∷ ‵ (flft κ (Share.right q)) ∷ ‵ ((MutRef (named 0) (within ν κ) (R κ)).own_val (local_reader h l δ) (vptr l 0 ∷ [])) ∷ []) ∵
         nothing ! $ move ! (2 ∷ 0 ∷ []) $ join ! $ move ! (1 ∷ 0 ∷ []) $ join ! $
         nothing ! $ owned ! bool (Is bool) (bool_Makes 𝓛) t _ refl $ fjoin ! $ owned ! u8 (Is u8) (uint_Makes 𝓛 w8) f _ (refl, f_fits) $ fjoin ! $ move ! (2 ∷ 0 ∷ []) $ fjoin ! $
         move ! (1 ∷ 0 ∷ []) $ join ! $ frame ! $ done !
@@ -157,7 +157,7 @@ module _ {M : Type 1} {𝓤 : Ura M} {𝓛 : Logic 𝓤} {K : Type 0} {Γ : List
       → Seq K 𝓛 (‵ (fat full_share (T'.mir erased) l 0 u) ∷ ‵ ((R κ).own_val h (u ∷ [])) ∷ ‵ (flft κ q) ∷ Γ) G
   lends_reader k z at_mem run κ q f t f_fits h u l next-called =
       use2 𝓛 (‵ (part_at (R κ) full_share h l 0)) (cell_in 𝓛 κ h u l) $
-      lft_new k z (λ ν. move k (0 ∷ 2 ∷ []) $ use2 𝓛 (‵ (flft (within ν κ) (PosShare.left q)) ⊛ ‵ (flft κ (PosShare.right q)) ⊛ raw (Owed 𝓛 κ q ν)) (tok_make 𝓛 κ q ν) $ split k $
+      lft_new k z (λ ν. move k (0 ∷ 2 ∷ []) $ use2 𝓛 (‵ (flft (within ν κ) (Share.left q)) ⊛ ‵ (flft κ (Share.right q)) ⊛ raw (Owed 𝓛 κ q ν)) (tok_make 𝓛 κ q ν) $ split k $
       move k (2 ∷ []) $ use1 𝓛 (later (some (λ (δ : GName). ‵ ((MutRef (named 0) (within ν κ) (R κ)).own_val (local_reader h l δ) (vptr l 0 ∷ [])) ⊛ ‵ (flent (within ν κ) (Body (mem (R κ)) l 0 δ))))) (lends_ref 𝓛 (R κ) (named 0) (within ν κ) h l 0) $
       await k z $ pick k (λ δ. split k $ move k (3 ∷ []) $ split k $ move k (4 ∷ 0 ∷ 2 ∷ []) $
       use3 𝓛 (raw ((Next 𝓛 at_mem run).pre (to_next 𝓛 at_mem run κ q f t h ν l δ))) (goes_next 𝓛 at_mem run κ q f t h ν l δ f_fits) $ next-called ν δ))
@@ -167,10 +167,10 @@ module _ {M : Type 1} {𝓤 : Ura M} {𝓛 : Logic 𝓤} {K : Type 0} {Γ : List
       → Seq K 𝓛 (‵ (fat full_share (T'.mir erased) l 0 (T'.lowered y)) ∷ ‵ ((R κ).own_val y (T'.lowered y ∷ [])) ∷ ‵ (flft κ q) ∷ ‵ ((ShrSlice (named 0) κ u8).own_val r (w ∷ [])) ∷ Γ) G)
       → Seq K 𝓛 (raw ((Next 𝓛 at_mem run).post (to_next 𝓛 at_mem run κ q f t h ν l δ) w) ∷ raw (Owed 𝓛 κ q ν) ∷ ‵ (flent (within ν κ) (Body (mem (R κ)) l 0 δ)) ∷ Γ) G
   takes_reader k z at_mem run κ q f t h ν l δ w taken =
-      use1 𝓛 (later (some (λ (r : Bor (List ℕ)). ((‵ (flft (within ν κ) (PosShare.left q)) ⊛ ‵ (flft κ (PosShare.right q)) ⊛ ‵ ftrue) ⊛ ‵ ((ShrSlice (named 0) κ u8).own_val r (w ∷ []))) ⊛ raw (ensured 𝓛 next.ended (next.clauses 𝓛 at_mem run) (within ν κ, (κ, tt)) (local_reader h l δ, (f, (t, tt))) tt r)))) (id⊢ 𝓤 _) $ await k z $ pick k (λ r.
+      use1 𝓛 (later (some (λ (r : Bor (List ℕ)). ((‵ (flft (within ν κ) (Share.left q)) ⊛ ‵ (flft κ (Share.right q)) ⊛ ‵ ftrue) ⊛ ‵ ((ShrSlice (named 0) κ u8).own_val r (w ∷ []))) ⊛ raw (ensured 𝓛 next.ended (next.clauses 𝓛 at_mem run) (within ν κ, (κ, tt)) (local_reader h l δ, (f, (t, tt))) tt r)))) (id⊢ 𝓤 _) $ await k z $ pick k (λ r.
       -- what `next` ensures, at some last reader
       split k $ move k (1 ∷ []) $ use1 𝓛 (some (λ (ys : CaptureReader × (Unit {0} × (Unit {0} × Unit {0}))). ‵ (lasts next.ended (within ν κ, (κ, tt)) (local_reader h l δ, (f, (t, tt))) ys) ⊛ raw (fact 𝓤 (Gives f t h ys.0 r)))) (id⊢ 𝓤 _) $ pick k (λ ys.
-      split k $ move k (1 ∷ []) $ heard k (Gives f t h ys.0 r) (λ g. fsplit k $ move k (1 ∷ []) $ drop k $
+      split k $ move k (1 ∷ []) $ heard k (Gives f t h ys.0 r) (λ g. fsplit k $ move k (1 ∷ []) $ drop k $ fsplit k $ move k (1 ∷ []) $ drop k $
       move k (1 ∷ []) $ split k $ move k (1 ∷ []) $ peeks k (ShrSlice (named 0) κ u8) (Is (ShrSlice (named 0) κ u8)) (shows 𝓛 (ShrSlice (named 0) κ u8)) r (w ∷ []) (λ is_r.
       -- [what the part owns; the tokens; the last reader; what is owed to the new lifetime's token; the lender's part]
       move k (1 ∷ []) $ split3 k $ move k (0 ∷ 1 ∷ 5 ∷ []) $ use3 𝓛 (‵ (flft (ν ∷ []) full_share) ⊛ ‵ (flft κ q)) (tok_back 𝓛 κ q ν) $ split k $

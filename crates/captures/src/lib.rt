@@ -1,4 +1,6 @@
 // Recorded captures: the next frame from a place on, and the capture reader. `lister` lists all frames.
+#![tactic(auto)]
+
 mod spans;
 mod walks;
 

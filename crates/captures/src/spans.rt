@@ -12,7 +12,7 @@ use texts::text;
 
 // Where a frame stands in a capture, and the place reached: just behind it. The length is 0 where there
 // is none; the place is then as it was.
-#[derive(Drop)]
+#[derive(Clone, Copy)]
 pub struct Span {
     pub start: usize,
     pub length: usize,

@@ -6,7 +6,7 @@ ghost use Rattle.captures.specs.Captures.{Gives, GivesAt};
 use crate::spans::find;
 use texts::text;
 
-#[derive(Drop)]
+#[derive(Clone, Copy)]
 pub struct CaptureReader<'a> {
     pub capture: &'a [u8],
     pub place: usize,

@@ -3,14 +3,14 @@ ghost use Rattle.std.specs.Prelude.{◌≡◌};
 ghost use Rattle.checksums.specs.Hex.{OfDigits, digit_in, pair_in, pairs_in};
 
 // Two hexadecimal digits as one byte: the value is 0 where they are none.
-#[derive(Drop)]
+#[derive(Clone, Copy)]
 pub struct HexByte {
     pub good: bool,
     pub value: u8,
 }
 
 // Four hexadecimal digits as two bytes.
-#[derive(Drop)]
+#[derive(Clone, Copy)]
 pub struct HexPairs {
     pub first: HexByte,
     pub second: HexByte,

@@ -1,4 +1,6 @@
 // The Alpha's checksum: its two sums, and the hexadecimal digits that give them.
+#![tactic(auto)]
+
 mod hexadecimal;
 mod sentence_sums;
 

@@ -5,7 +5,7 @@ ghost use Rattle.checksums.specs.Sums.{sums_in};
 
 use texts::text_byte;
 
-#[derive(Drop)]
+#[derive(Clone, Copy)]
 pub struct Sums {
     // each byte may stand in a payload
     pub allowed: bool,
@@ -46,6 +46,7 @@ fn weighed(weight: u8, b: u8) -> u8
 }
 
 // Whether b may stand in a payload.
+#[tactic(auto, unfolding(rules::specs::Sentences::is_payload_byte))]
 pub fn payload_byte(b: u8) -> bool
     ensures { result ≡ is_payload_byte b }
 {

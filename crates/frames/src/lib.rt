@@ -1,10 +1,13 @@
 // The reader of one frame: a family number and lent bytes give the frame, or a refusal.
+#![tactic(auto)]
+
 ghost use Rattle.rules.specs.Answers.{Reads};
 
 use rules::{COMMANDS, MESSAGES, NO_FAMILY, REPLIES, Reading, SENTENCES};
 
 // The whole of the bytes is one good frame of the family, or it is refused: 1 where there is no such
 // family, else 8.
+#[tactic(auto, using(frame_laws::proofs::Saying::reads), unfolding(rules::specs::Answers::read_one))]
 pub fn read_frame(family: u8, bytes: &[u8]) -> Reading
     ensures { Reads family bytes.now result }
 {

@@ -5,7 +5,7 @@ use Rattle.stream_rules.specs.Heads.{longest, head, at_close}
 use Rattle.stream_rules.specs.Rule.{look, Call, gives, wants, call}
 use Rattle.stream_rules.specs.Streams.{wrap, place_count, open_call, closed_call}
 use Rattle.stream_rules.specs.declared.Answer.TheVariants.{Ready, More, Done}
-use Rattle.held_bytes.specs.Held.{LentBytes}
+use Rattle.held_bytes.specs.Held.{LentBytes, ReadBytes}
 use Rattle.held_bytes.specs.declared.moves.Moved.{Moved}
 use Rattle.held_bytes.specs.Places.{reader_at, fed_at}
 
@@ -47,7 +47,7 @@ abbrev pub Opens : ℕ → ℕ → ℕ → Call → List ℕ → Moved → Type 
 Opens family at skipped c left m = (closed : ℕ) → fed_at family closed left m ≡ open_call (reader_at family closed 0 [] at skipped) c
 
 -- The same of a call on bytes that are offered to a reader whose places are lent.
-abbrev pub OpensLent : ℕ → LentBytes → ℕ → ℕ → ℕ → LentBytes → Moved → Type 0
+abbrev pub OpensLent : ℕ → LentBytes → ℕ → ℕ → ℕ → ReadBytes → Moved → Type 0
 OpensLent family held count at skipped offered m =
     Opens family at skipped (call (head family) (take count held.entry.now) offered.entry.now) held.exit.now m
 

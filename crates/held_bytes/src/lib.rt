@@ -1,5 +1,7 @@
 // The held places of a stream reader, which are lent and altered where they stand: bytes laid behind those held,
 // and a part of them kept, with zeros behind it. The modules have what a call does with them and with the bytes offered.
+#![tactic(auto)]
+
 mod feeding;
 mod moves;
 mod pieces;

@@ -10,7 +10,7 @@ use stream_rules::{Answer, Ready};
 
 // The count of the held bytes, the place in the stream of the first of them, the bytes skipped since the last frame, and
 // the answer.
-#[derive(Drop)]
+#[derive(Clone, Copy)]
 pub struct Moved {
     pub count: u8,
     pub at: u32,

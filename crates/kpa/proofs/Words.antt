@@ -9,7 +9,7 @@ use native.Mathlib.Omega.{arith}
 use lib.ListN.{length, take, drop, length-map, length-drop}
 use lib.Seq.{take_all, take-append_seam}
 use Rattle.rules.specs.Bytes.{part, first}
-use Rattle.rules.specs.Messages.{is_letter, capital, letter_run, letters_in, behind_letters, word, as_letters, behind}
+use Rattle.rules.specs.Messages.{is_letter, letter_run, letters_in, behind_letters, word, as_letters, behind}
 use Rattle.rules.specs.Answers.{read_behind, read_body}
 use Rattle.rules.specs.declared.Behind.{Behind}
 use Rattle.rules.specs.declared.Frame.TheVariants.{Message}

@@ -21,6 +21,7 @@ fn question(letters: u32) -> Reading
 }
 
 // A number of so many digits and up to a limit, or a question.
+#[tactic(auto, using(crate::proofs::Responses::asked, crate::proofs::Responses::refused, crate::proofs::Responses::accepted, crate::proofs::Responses::digits_good, crate::proofs::Responses::digits_count), unfolding(rules::specs::Messages::is_number))]
 pub(crate) fn read_number(letters: u32, width: usize, limit: u32, t: &[u8]) -> Reading
     requires { width ≤ 9 }
     ensures { result ≡ read_number letters width limit t.now }
@@ -43,6 +44,7 @@ pub(crate) fn read_number(letters: u32, width: usize, limit: u32, t: &[u8]) -> R
 }
 
 // Whether two bytes from a place on are digits, and a mark stands behind them.
+#[tactic(auto, using(crate::proofs::Responses::pair_good))]
 fn is_pair(t: &[u8], at: usize, mark: u8) -> bool
     requires { at + 3 ≤ length t.now }
     ensures { result ≡ (every is_digit (part at 2 t.now) && eqb (get_or t.now (at + 2) 0) mark) }
@@ -69,6 +71,7 @@ fn are_pairs(marks: &[u8], t: &[u8]) -> bool
 }
 
 // The pair of digits at a place, as a number.
+#[tactic(auto, using(crate::proofs::Responses::pair_small, crate::proofs::Responses::pair_count))]
 fn pair_at(t: &[u8], k: usize) -> u8
     requires { k ≤ 5 }
     ensures { every is_digit (part (3 * k) 2 t.now) ≡ true → result ≡ pair_at t.now k }
@@ -77,6 +80,7 @@ fn pair_at(t: &[u8], k: usize) -> u8
 }
 
 // A version, or a question.
+#[tactic(auto, using(crate::proofs::Responses::asked, crate::proofs::Responses::refused))]
 pub(crate) fn read_version(letters: u32, t: &[u8]) -> Reading
     ensures { result ≡ read_version letters t.now }
 {
@@ -105,6 +109,7 @@ fn clock_of(t: &[u8]) -> Clock
 }
 
 // A real date and a time, or a question.
+#[tactic(auto, using(crate::proofs::Responses::asked, crate::proofs::Responses::refused, crate::proofs::Responses::accepted))]
 pub(crate) fn read_clock(letters: u32, t: &[u8]) -> Reading
     ensures { result ≡ read_clock letters t.now }
 {

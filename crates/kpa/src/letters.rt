@@ -7,6 +7,7 @@ use rules::{Letters, WORD_LETTERS};
 use texts::text;
 
 // Whether b is a letter, in either case.
+#[tactic(auto, unfolding(rules::specs::Messages::is_letter))]
 pub fn is_letter(b: u8) -> bool
     ensures { result ≡ is_letter b }
 {
@@ -14,6 +15,7 @@ pub fn is_letter(b: u8) -> bool
 }
 
 // The capital of a small letter; any other byte as it is.
+#[tactic(auto, unfolding(rules::specs::Messages::capital))]
 fn capital_of(b: u8) -> u8
     ensures { result ≡ capital b }
 {
@@ -24,7 +26,7 @@ fn capital_of(b: u8) -> u8
 }
 
 // The letters that a body begins with: how many, counted to one more than a number holds; and the first of them as a number.
-#[derive(Drop)]
+#[derive(Clone, Copy)]
 pub(crate) struct Lead {
     pub(crate) count: usize,
     pub(crate) word: u32,
@@ -53,6 +55,7 @@ pub(crate) fn lead_of(body: &[u8]) -> Lead
 }
 
 // How many letters the bytes begin with.
+#[tactic(auto, using(crate::proofs::Steps::ends, crate::proofs::Steps::goes_on, crate::proofs::Steps::no_more))]
 fn letter_run(s: &[u8]) -> usize
     ensures { result ≡ length (letter_run s.now) }
 {
@@ -67,6 +70,7 @@ fn letter_run(s: &[u8]) -> usize
 }
 
 // Up to four letters as one number.
+#[tactic(auto, using(crate::proofs::Steps::small, crate::proofs::Steps::grown), unfolding(rules::specs::Messages::word_from))]
 fn word_of(letters: &[u8]) -> u32
     requires { length letters.now ≤ 4 }
     ensures { result ≡ word (map capital letters.now) }
@@ -89,6 +93,7 @@ fn word_at(letters: &[u8], k: usize) -> u32
 }
 
 // Letters as ten numbers, four in each.
+#[tactic(auto, unfolding(rules::specs::Messages::as_letters))]
 fn letters_of(letters: &[u8]) -> Letters
     ensures { result ≡ as_letters (map capital letters.now) }
 {
@@ -107,6 +112,7 @@ fn letters_of(letters: &[u8]) -> Letters
 }
 
 // All letters that a body begins with, as ten numbers.
+#[tactic(auto, using(crate::proofs::Words::run, crate::proofs::Words::run_size))]
 pub(crate) fn all_letters(body: &[u8]) -> Letters
     ensures { result ≡ as_letters (letters_in body.now) }
 {
@@ -126,6 +132,7 @@ pub fn word_bytes(word: u32) -> [u8; 4]
 }
 
 // How many letters a number holds.
+#[tactic(auto, unfolding(rules::specs::Messages::word_letters, rules::specs::Messages::without_zeros))]
 pub fn word_length(word: u32) -> usize
     ensures { result ≡ length (word_letters word) }
 {

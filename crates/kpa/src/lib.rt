@@ -1,4 +1,6 @@
 // Reads one message of the KPA1500, as a whole.
+#![tactic(auto)]
+
 mod behind;
 mod letters;
 
@@ -21,6 +23,7 @@ use rules::{
 use texts::text_byte;
 
 // What a good message says, or the refusal 8.
+#[tactic(auto, using(crate::proofs::Frames::framed))]
 pub fn read_message(s: &[u8]) -> Reading
     ensures { Reads messages s.now result }
 {
@@ -47,6 +50,7 @@ pub fn is_good_body(body: &[u8]) -> bool
 }
 
 // Whether letters and what stands behind them are good, whatever the letters are told as.
+#[tactic(auto, using(frame_laws::proofs::Listed::number_fits))]
 fn is_good_behind(letters: u32, t: &[u8]) -> bool
     ensures { (w : Letters) → result ≡ is_good (read_behind letters w (behind letters) t.now) }
 {
@@ -70,6 +74,7 @@ fn is_good(answer: Reading) -> bool
 }
 
 // Whether the bytes are a message, whatever it says. The tests that cost least come first.
+#[tactic(auto, using(crate::proofs::Frames::not_framed))]
 fn is_framed(s: &[u8]) -> bool
     ensures { result ≡ is_message s.now }
 {
@@ -93,6 +98,7 @@ fn is_framed(s: &[u8]) -> bool
 }
 
 // Whether each byte may stand in a body.
+#[tactic(auto, unfolding(rules::specs::Bytes::every, rules::specs::Messages::is_body_byte))]
 fn are_body_bytes(body: &[u8]) -> bool
     ensures { result ≡ every is_body_byte body.now }
 {

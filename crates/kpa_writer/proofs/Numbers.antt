@@ -4,23 +4,20 @@ use Prim.Native.Nat.{ℕ, ◌^◌, ◌≤◌, ◌<◌}
 use Prim.Native.Char.{code}
 use mathlib.Core.Path.{◌≡◌, refl, ◌∙◌}
 use mathlib.Core.Bool.{false}
-use mathlib.Core.List.{List, [], ◌∷◌}
+use mathlib.Core.List.{List, []}
 use native.Mathlib.Omega.{arith}
-use denote.Enum.Declared.{tag_of}
 use lib.ListN.{length}
-use types.Run.{OneOf, miss}
 use Rattle.rules.specs.Bytes.{part}
 use Rattle.rules.specs.Numbers.{with_zeros}
 use Rattle.rules.specs.Messages.{is_up_to}
 use Rattle.rules.specs.declared.Behind.{Behind}
 use Rattle.rules.specs.declared.Behind.TheVariants.{ANumber, AVersion, AClock, Alone, Anything}
-use Rattle.rules.specs.contracts.Behind.{the_type}
 use Rattle.pens.specs.Pens.{laid, number_in}
 use Rattle.pens.proofs.Laid.{part_laid}
 use Rattle.pens.proofs.Digits.{length_number, number_zeros}
 
-pub none_up_to : (b : Behind) → OneOf (1 ∷ 2 ∷ 3 ∷ 4 ∷ []) (tag_of the_type b) → (n : ℕ) → is_up_to b n ≡ false
-none_up_to (ANumber width limit) other n = absurd (miss (1 ∷ 2 ∷ 3 ∷ 4 ∷ []) 0 tt other)
+pub none_up_to : (b : Behind) → ((width limit : ℕ) → b ≡ ANumber width limit → ⊥) → (n : ℕ) → is_up_to b n ≡ false
+none_up_to (ANumber width limit) other n = absurd (other width limit refl)
 none_up_to AVersion other n = refl
 none_up_to AClock other n = refl
 none_up_to Alone other n = refl

@@ -1,4 +1,6 @@
 // The writer of the KPA1500's messages: into the lent output's front, or it refuses and leaves that as it was.
+#![tactic(auto)]
+
 ghost use Rattle.std.specs.Prelude.{◌≡◌, true, ◌++◌, get_or};
 ghost use Rattle.rules.specs.Answers.{Writes, no_record};
 ghost use Rattle.rules.specs.Numbers.{with_zeros};
@@ -10,6 +12,7 @@ use records::{behind_letters, clock_in_range};
 use rules::{Behind, CC, Clock, FT, Message, NO_RECORD, NO_ROOM, RV, Written};
 
 // A caret, letters, a text behind them, and a semicolon.
+#[tactic(auto, using(kpa::proofs::LastLetters::few_letters, pens::proofs::Writing::has_no_room))]
 fn write_letters(letters: u32, t: &[u8], out: &mut [u8]) -> Written
     ensures { Writes true no_record (message_frame (word_letters letters ++ t.now)) out.old result out.new }
 {
@@ -39,6 +42,7 @@ fn is_asked(behind: Behind) -> bool
     }
 }
 
+#[tactic(auto, using(pens::proofs::Writing::refuses, pens::proofs::Writing::allowed_too), unfolding(rules::specs::Messages::message_in_range, rules::specs::Messages::message_bytes))]
 fn write_question(letters: u32, out: &mut [u8]) -> Written
     ensures { Writes (message_in_range (Question letters)) no_record (message_bytes (Question letters)) out.old result out.new }
 {
@@ -64,18 +68,21 @@ fn write_number(letters: u32, n: u32, out: &mut [u8]) -> Written
 }
 
 // The two digits of a number below 100.
+#[tactic(auto, unfolding(rules::specs::Numbers::with_zeros))]
 fn tens(n: u8) -> u8
     ensures { result ≡ get_or (with_zeros 2 n) 0 0 }
 {
     b'0' + n / 10
 }
 
+#[tactic(auto, unfolding(rules::specs::Numbers::with_zeros))]
 fn ones(n: u8) -> u8
     ensures { result ≡ get_or (with_zeros 2 n) 1 0 }
 {
     b'0' + n % 10
 }
 
+#[tactic(auto, using(pens::proofs::Writing::refuses, pens::proofs::Writing::allowed_too), unfolding(rules::specs::Messages::message_in_range, rules::specs::Messages::message_bytes, rules::specs::Messages::word_letters, rules::specs::Messages::without_zeros, rules::specs::Messages::pairs_text, rules::specs::Numbers::with_zeros))]
 fn write_version(a: u8, b: u8, out: &mut [u8]) -> Written
     ensures { Writes (message_in_range (Version a b)) no_record (message_bytes (Version a b)) out.old result out.new }
 {
@@ -86,6 +93,7 @@ fn write_version(a: u8, b: u8, out: &mut [u8]) -> Written
     write_letters(RV, &t, out)
 }
 
+#[tactic(auto, using(pens::proofs::Writing::refuses, pens::proofs::Writing::allowed_too), unfolding(rules::specs::Messages::message_in_range, rules::specs::Messages::message_bytes, rules::specs::Messages::word_letters, rules::specs::Messages::without_zeros, rules::specs::Messages::pairs_text, rules::specs::Numbers::with_zeros))]
 fn write_clock(c: Clock, out: &mut [u8]) -> Written
     ensures { Writes (message_in_range (ClockOf c)) no_record (message_bytes (ClockOf c)) out.old result out.new }
 {
@@ -115,6 +123,7 @@ fn write_clock(c: Clock, out: &mut [u8]) -> Written
 }
 
 // A message by its record. Letters that are not listed have no writer.
+#[tactic(auto, using(pens::proofs::Writing::refuses), unfolding(rules::specs::Messages::message_in_range, rules::specs::Messages::message_bytes, rules::specs::Messages::word_letters, rules::specs::Messages::without_zeros))]
 pub fn write_message(m: Message, out: &mut [u8]) -> Written
     ensures { Writes (message_in_range m) no_record (message_bytes m) out.old result out.new }
 {

@@ -1,13 +1,15 @@
 // Lines of text, for the programs. Each function but the last three lays text into a lent line at a
 // place and gives the place behind it; what has no room is left out. The last three print: what is
 // printed is the line, and of the printing nothing is promised.
+#![tactic(auto)]
+
 mod input;
 
 ghost use Rattle.std.specs.Prelude.{[], ◌∷◌};
 ghost use Rattle.rules.specs.Numbers.{hex_digits};
 ghost use Rattle.lines.specs.Lines.{Types, decimal_text, spaced_texts, hex_texts, refused_texts};
 
-pub use input::input_buffer;
+pub use input::{input_buffer, read_full};
 
 // The bytes as they are.
 pub fn text(line: &mut [u8], at: usize, what: &[u8]) -> usize
@@ -71,21 +73,21 @@ pub fn refused(line: &mut [u8], at: usize, n: u8) -> usize
 }
 
 // Prints a text as a line.
-pub fn print_text(what: &[u8]) {
+pub fn print_text(rt: &impl Print, what: &[u8]) -> std::io::Result<()> {
     let mut line = [0u8; 512];
     let end = text(&mut line, 0, what);
-    print(&mut line, end);
+    print(rt, &mut line, end)
 }
 
 // Prints a refusal as a line.
-pub fn print_refused(n: u8) {
+pub fn print_refused(rt: &impl Print, n: u8) -> std::io::Result<()> {
     let mut line = [0u8; 32];
     let end = refused(&mut line, 0, n);
-    print(&mut line, end);
+    print(rt, &mut line, end)
 }
 
 // Prints the line up to the place, and a line end, in one write.
-pub fn print(line: &mut [u8], at: usize) {
+pub fn print(rt: &impl Print, line: &mut [u8], at: usize) -> std::io::Result<()> {
     let end = text(line, at, b"\n");
-    io::write_all(libc::STDOUT_FILENO, texts::text(line, 0, end));
+    rt.write_all(texts::text(line, 0, end))
 }

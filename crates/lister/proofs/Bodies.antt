@@ -13,7 +13,6 @@ use lib.Seq.{get_or-take, get_or-drop, take-nil, take-take, length-take-le}
 use Rattle.rules.specs.Bytes.{every, first, part}
 use Rattle.rules.specs.Messages.{is_body_byte, is_letter, is_message, body_of}
 use Rattle.rules.specs.Answers.{is_good, read_body, read_family4, read_one}
-use Rattle.rules.specs.declared.Frame.{Frame}
 use Rattle.frame_laws.proofs.Bytes.{answer}
 use Rattle.kpa.proofs.Frames.{Framed, framed, not_framed, is-message}
 use Rattle.stream_rules.specs.Heads.{message_brackets, head}

@@ -6,7 +6,6 @@ use borrow.Author.Tests.{eqb-true, ne_eqb}
 use lib.Dec.{eqb}
 use Rattle.rules.specs.Bytes.{one_of}
 use Rattle.rules.specs.Answers.{is_family}
-use Rattle.stream_rules.specs.Heads.{is_spe}
 use Rattle.lister.specs.GoodLengths.{IsBracketed}
 
 -- a family that is no packets' is one of brackets

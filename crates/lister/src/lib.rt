@@ -1,4 +1,6 @@
 // The lister: the starts of all frames in a capture.
+#![tactic(auto)]
+
 mod lists;
 mod steps;
 

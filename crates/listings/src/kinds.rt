@@ -11,6 +11,7 @@ use records::of_letters;
 use rules::Kind;
 
 // What kind of frame it is: `ack XX`, `status`, `command XX`, `APAnn`, or the letters of a message.
+#[tactic(auto, unfolding(crate::specs::Kinds::kind_texts))]
 pub fn kind(line: &mut [u8], at: usize, of: Kind) -> usize
     ensures { Types (kind_texts of) line.old at line.new result }
 {

@@ -1,4 +1,6 @@
 // What the program `listing` prints of a capture, and the words for a kind of frame.
+#![tactic(auto)]
+
 mod kinds;
 mod prints;
 mod table;

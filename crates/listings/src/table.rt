@@ -14,7 +14,7 @@ use rules::Reading;
 
 // How far a listing has come: how many frames of the family are listed, where the last of them ends, and
 // how many bytes lie in them.
-#[derive(Drop)]
+#[derive(Clone, Copy)]
 pub struct Tally {
     pub family: u8,
     pub listed: usize,
@@ -23,7 +23,7 @@ pub struct Tally {
 }
 
 // A frame's line that is laid: the place behind it, and the tally with this frame.
-#[derive(Drop)]
+#[derive(Clone, Copy)]
 pub struct Laid {
     pub at: usize,
     pub tally: Tally,

@@ -1,4 +1,6 @@
 // Pens: each lays bytes into a lent output at a place, where they fit, and else leaves it as it was.
+#![tactic(auto)]
+
 ghost use Rattle.std.specs.Prelude.{◌≡◌, [], ◌∷◌, ◌<◌};
 ghost use Rattle.rules.specs.Numbers.{hex_digit, hex_digits};
 ghost use Rattle.pens.specs.Pens.{laid, digit_or, number_in, field_in};

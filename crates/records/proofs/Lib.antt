@@ -1,3 +1,2 @@
--- Laws that the ranges share, and laws of values in their places.
-pub mod Tests
+-- Laws of values in their places.
 pub mod Places

@@ -1,7 +1,7 @@
 -- Laws of values in their places: those behind the values are zeros; and of what is told of a frame.
 -- Assumes nothing.
 use Prim.Native.Nat.{ℕ, zero, suc, ◌-◌, ◌≤◌, ◌<◌}
-use mathlib.Core.Path.{◌≡◌, refl, ap}
+use mathlib.Core.Path.{◌≡◌, ap}
 use mathlib.Core.List.{List, ◌++◌, map}
 use native.Mathlib.Nat.{zero-add, zero-sub}
 use native.Mathlib.Numerals.{unary_clauses}

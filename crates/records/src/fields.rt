@@ -35,6 +35,7 @@ pub fn of_status(s: Status) -> [u32; STATUS_VALUES]
 }
 
 // The thirteen of sentence 02.
+#[tactic(auto, unfolding(rules::specs::Sentences::numbers02))]
 pub fn of_02(r: Sentence02) -> [u32; 13]
     ensures { result ≡ numbers02 r }
 {
@@ -45,6 +46,7 @@ pub fn of_02(r: Sentence02) -> [u32; 13]
 }
 
 // The eight of sentence 03 before its temperature, which has a sign.
+#[tactic(auto, unfolding(rules::specs::Sentences::numbers03))]
 pub fn of_03(r: Sentence03) -> [u32; 8]
     ensures { result ≡ numbers03 r }
 {

@@ -1,5 +1,7 @@
 // The records' fields as numbers, in the documents' order, what is told of a frame, and whether the record of a
 // sentence or of a message holds only what its fields can carry.
+#![tactic(auto)]
+
 mod fields;
 mod messages;
 mod ranges;

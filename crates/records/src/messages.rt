@@ -7,6 +7,7 @@ use rules::{
 };
 
 // What may stand behind letters, which are one number.
+#[tactic(auto, unfolding(rules::specs::Messages::behind, rules::specs::Bytes::one_of, rules::specs::Messages::word_from))]
 pub fn behind_letters(letters: u32) -> Behind
     ensures { result ≡ behind letters }
 {
@@ -23,6 +24,7 @@ pub fn behind_letters(letters: u32) -> Behind
 }
 
 // How many days a month has. From 2000 to 2099 every fourth year is a leap year.
+#[tactic(auto, unfolding(rules::specs::Messages::days_in, rules::specs::Bytes::one_of))]
 fn days_in(year: u8, month: u8) -> u8
     ensures { result ≡ days_in year month }
 {
@@ -34,6 +36,7 @@ fn days_in(year: u8, month: u8) -> u8
 }
 
 // Whether it is a real date of these years, and a time of a day.
+#[tactic(auto, unfolding(rules::specs::Messages::clock_in_range))]
 pub fn clock_in_range(c: Clock) -> bool
     ensures { result ≡ clock_in_range c }
 {

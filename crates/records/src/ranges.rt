@@ -11,6 +11,7 @@ pub const WIDTHS02: [usize; 13] = [5, 3, 4, 4, 4, 3, 3, 3, 1, 1, 2, 1, 5];
 pub const WIDTHS03: [usize; 8] = [3, 3, 3, 3, 3, 4, 3, 1];
 
 // Each number fits its width; grid voltage is at most 255, band 1 to 9, key 0 or 1.
+#[tactic(auto, unfolding(rules::specs::Sentences::in_range02, rules::specs::Sentences::numbers02, rules::specs::Sentences::fit))]
 pub fn in_range02(r: Sentence02) -> bool
     ensures { result ≡ in_range02 r }
 {
@@ -33,6 +34,7 @@ pub fn in_range02(r: Sentence02) -> bool
 }
 
 // Each number fits its width; mains tap is 1 to 5, and the temperature has at most four digits.
+#[tactic(auto, unfolding(rules::specs::Sentences::in_range03, rules::specs::Sentences::numbers03, rules::specs::Sentences::fit))]
 pub fn in_range03(r: Sentence03) -> bool
     ensures { result ≡ in_range03 r }
 {
@@ -49,6 +51,7 @@ pub fn in_range03(r: Sentence03) -> bool
 }
 
 // Each nibble is at most 15; the last three are whole bytes.
+#[tactic(auto, unfolding(rules::specs::Sentences::in_range05))]
 pub fn in_range05(r: Sentence05) -> bool
     ensures { result ≡ in_range05 r }
 {

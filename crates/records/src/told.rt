@@ -12,7 +12,7 @@ use rules::{CC, FT, Frame, Kind, Message, RV, STATUS_VALUES, Sentence03};
 pub const VALUE_PLACES: usize = STATUS_VALUES;
 
 // The kind of a frame, how many values it has, and these at the front of the places, with zeros in the others.
-#[derive(Drop)]
+#[derive(Clone, Copy)]
 pub struct Fields {
     pub kind: Kind,
     pub count: usize,
@@ -49,6 +49,7 @@ fn with_numbers(kind: Kind, numbers: &[u32]) -> Fields
 }
 
 // Sentence 03: its temperature has a sign, and comes behind its numbers.
+#[tactic(auto, unfolding(rules::specs::Sentences::numbers03))]
 fn fields_of_03(r: Sentence03) -> Fields
     ensures { result ≡ fields_of (Apa03 r) }
 {
@@ -64,6 +65,7 @@ fn fields_of_03(r: Sentence03) -> Fields
 }
 
 // The fields of a message: what a response tells, and the numbers that hold other letters.
+#[tactic(auto, unfolding(rules::specs::Messages::word_from))]
 fn fields_of_message(m: Message) -> Fields
     ensures { result ≡ fields_of (FrameOf m) }
 {
@@ -78,6 +80,7 @@ fn fields_of_message(m: Message) -> Fields
 }
 
 // The fields of a frame.
+#[tactic(auto, using(crate::proofs::Places::tells))]
 pub fn fields_of(frame: Frame) -> Fields
     ensures { FieldsTold frame result }
 {

@@ -1,4 +1,6 @@
 // What the program `replay` prints of a script, and a frame as text with its values.
+#![tactic(auto)]
+
 mod script;
 mod shown;
 mod values;

@@ -5,37 +5,36 @@ ghost use Rattle.std.specs.Prelude.{◌-◌, ◌≤◌, length};
 
 use crate::shown;
 use rules::TOO_LONG;
+use std::io;
 use stream::{close, feed, fresh_reader};
 use stream_rules::{Answer, LONGEST_CAPTURE, Outcome, Reader, Ready};
 use texts::{one_of, text};
 
 // A line for each call, and one for the end; or the refusal alone.
-pub fn print_replay(family: u8, script: &[u8]) {
+pub fn print_replay(rt: &impl Print, family: u8, script: &[u8]) -> io::Result<()> {
     let made = fresh_reader(family);
     let outcome = made.outcome;
     match outcome {
-        Outcome::Accepted => print_calls(made.reader, script),
-        Outcome::Refused(n) => lines::print_refused(n),
+        Outcome::Accepted => print_calls(rt, made.reader, script),
+        Outcome::Refused(n) => lines::print_refused(rt, n),
     }
 }
 
-fn print_calls(first: Reader, script: &[u8]) {
+fn print_calls(rt: &impl Print, first: Reader, script: &[u8]) -> io::Result<()> {
     if LONGEST_CAPTURE < script.len() {
-        lines::print_refused(TOO_LONG);
-        return;
+        return lines::print_refused(rt, TOO_LONG);
     }
     let mut reader = first;
     let mut at = 0;
     while at < script.len() {
         let length = call_length(script, at);
         if length == 0 {
-            lines::print_text(b"bad script");
-            return;
+            return lines::print_text(rt, b"bad script");
         }
-        reader = make_call(reader, text(script, at, length));
+        reader = make_call(rt, reader, text(script, at, length))?;
         at += length;
     }
-    lines::print_text(b"end");
+    lines::print_text(rt, b"end")
 }
 
 // How many bytes the call at a place has; 0 where there is none, or it is cut short.
@@ -63,60 +62,60 @@ fn call_length(script: &[u8], at: usize) -> usize
 }
 
 // Makes one call: the letter, and for an offer the count byte and the bytes.
-fn make_call(reader: Reader, call: &[u8]) -> Reader {
+fn make_call(rt: &impl Print, reader: Reader, call: &[u8]) -> io::Result<Reader> {
     if call.len() < 2 {
-        return print_close(reader);
+        return print_close(rt, reader);
     }
     if call[0] == b'f' {
-        return print_feed(reader, &call[2..]);
+        return print_feed(rt, reader, &call[2..]);
     }
-    print_feeds(reader, &call[2..])
+    print_feeds(rt, reader, &call[2..])
 }
 
-fn print_close(reader: Reader) -> Reader {
+fn print_close(rt: &impl Print, reader: Reader) -> io::Result<Reader> {
     let closed = close(reader);
     let outcome = closed.outcome;
     match outcome {
-        Outcome::Accepted => lines::print_text(b"closed"),
-        Outcome::Refused(n) => lines::print_refused(n),
+        Outcome::Accepted => lines::print_text(rt, b"closed")?,
+        Outcome::Refused(n) => lines::print_refused(rt, n)?,
     }
-    closed.reader
+    Ok(closed.reader)
 }
 
-fn print_feed(reader: Reader, offered: &[u8]) -> Reader {
+fn print_feed(rt: &impl Print, reader: Reader, offered: &[u8]) -> io::Result<Reader> {
     let fed = feed(reader, offered);
     let answer = fed.answer;
-    print_answer(answer);
-    fed.reader
+    print_answer(rt, answer)?;
+    Ok(fed.reader)
 }
 
 // Offers the untaken rest again as long as a frame is handed out.
-fn print_feeds(first: Reader, offered: &[u8]) -> Reader {
+fn print_feeds(rt: &impl Print, first: Reader, offered: &[u8]) -> io::Result<Reader> {
     let mut reader = first;
     let mut at = 0;
     while at <= offered.len() {
         let fed = feed(reader, &offered[at..]);
         let answer = fed.answer;
         reader = fed.reader;
-        print_answer(answer);
+        print_answer(rt, answer)?;
         let Answer::Ready(r) = answer else {
-            return reader;
+            return Ok(reader);
         };
         at += r.taken;
     }
-    reader
+    Ok(reader)
 }
 
-fn print_answer(answer: Answer) {
+fn print_answer(rt: &impl Print, answer: Answer) -> io::Result<()> {
     match answer {
-        Answer::Ready(r) => print_ready(r),
-        Answer::More(n) => print_count(b"more", n),
-        Answer::Done(n) => print_count(b"done", n),
-        Answer::Refused(n) => lines::print_refused(n),
+        Answer::Ready(r) => print_ready(rt, r),
+        Answer::More(n) => print_count(rt, b"more", n),
+        Answer::Done(n) => print_count(rt, b"done", n),
+        Answer::Refused(n) => lines::print_refused(rt, n),
     }
 }
 
-fn print_ready(r: Ready) {
+fn print_ready(rt: &impl Print, r: Ready) -> io::Result<()> {
     let mut line = [0u8; 512];
     let at = lines::text(&mut line, 0, b"frame");
     let at = lines::spaced(&mut line, at, r.taken as u64);
@@ -126,12 +125,12 @@ fn print_ready(r: Ready) {
     let at = lines::text(&mut line, at, b" ");
     let frame = r.frame;
     let end = shown::frame(&mut line, at, frame);
-    lines::print(&mut line, end);
+    lines::print(rt, &mut line, end)
 }
 
-fn print_count(word: &[u8], n: usize) {
+fn print_count(rt: &impl Print, word: &[u8], n: usize) -> io::Result<()> {
     let mut line = [0u8; 64];
     let at = lines::text(&mut line, 0, word);
     let end = lines::spaced(&mut line, at, n as u64);
-    lines::print(&mut line, end);
+    lines::print(rt, &mut line, end)
 }

@@ -15,6 +15,7 @@ const STATUS_FORMS: [u8; VALUE_PLACES] = [
 ];
 
 // The forms of the values of a kind of frame.
+#[tactic(auto, unfolding(crate::specs::Texts::forms_of))]
 pub(crate) fn forms_of(kind: Kind) -> [u8; VALUE_PLACES]
     ensures { result ≡ forms_of kind }
 {
@@ -30,6 +31,7 @@ pub(crate) fn forms_of(kind: Kind) -> [u8; VALUE_PLACES]
 }
 
 // A question mark behind a space, where it is a question.
+#[tactic(auto, using(crate::proofs::Onward::nothing), unfolding(crate::specs::Texts::asked_texts))]
 pub(crate) fn asked(line: &mut [u8], at: usize, kind: Kind) -> usize
     ensures { Types (asked_texts kind) line.old at line.new result }
 {
@@ -55,6 +57,7 @@ fn magnitude(z: i64) -> u64
 }
 
 // A number behind a space, with a minus where it is below zero.
+#[tactic(auto, unfolding(crate::specs::Texts::signed_texts))]
 fn signed(line: &mut [u8], at: usize, z: i64) -> usize
     ensures { Types (signed_texts z) line.old at line.new result }
 {
@@ -73,6 +76,7 @@ fn letter_of(v: i64) -> u8
 }
 
 // A value in the form of its field.
+#[tactic(auto, using(crate::proofs::Onward::nothing), unfolding(crate::specs::Texts::field_texts))]
 fn field(line: &mut [u8], at: usize, form: u8, v: i64) -> usize
     ensures { Types (field_texts form v) line.old at line.new result }
 {

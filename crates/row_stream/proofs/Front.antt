@@ -61,13 +61,6 @@ module _ (family at skipped : ℕ) (held offered : List ℕ) (n : ℕ) (f : Fram
       ∙ simp zero-add)
       stands
 
--- no frame: nothing is changed
-pub nothing_there : (family at skipped : ℕ) (offered held : List ℕ) (numbers : List ℤ) → FrontRow family at skipped offered held numbers 0 held numbers
-nothing_there family at skipped offered held numbers = record {
-  none = λ zero. (refl, refl);
-  handed = λ some. absurd (some refl);
-}
-
 -- a frame of n bytes: the places are clear, and its row stands there
 pub frame_there : (family at skipped : ℕ) (held offered : List ℕ) (n : ℕ) (f : Frame) → is_family family ≡ true → n ≤ length offered → read_one family (take n offered) ≡ Good f
     → (n ≡ 0 → ⊥) → (numbers after : List ℤ) (places : List ℕ) → longest_row ≤ length numbers → at < 2 ^ 32 → skipped < 2 ^ 32

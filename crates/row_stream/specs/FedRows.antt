@@ -3,7 +3,7 @@ use Rattle.std.specs.Prelude.{ℕ, ◌≡◌, cond, List, eqb, ℤ, length}
 use Rattle.stream_rules.specs.Streams.{place_count, fed, said_to_feed}
 use Rattle.stream_rules.specs.declared.Reader.{Reader}
 use Rattle.held_bytes.specs.Places.{reader_at}
-use Rattle.held_bytes.specs.Held.{LentBytes}
+use Rattle.held_bytes.specs.Held.{LentBytes, ReadBytes}
 use Rattle.rows.specs.Rows.{row_fed, Lays, LentNumbers}
 use Rattle.row_stream.specs.declared.Counts.{Counts}
 
@@ -21,6 +21,6 @@ FeedsRowAt family closed count held at skipped offered numbers c places left =
     → FeedsRow (reader_at family closed count held at skipped) offered numbers c.number (reader_at family closed c.count places c.at c.skipped) left
 
 -- The same in the words of a function that is lent the places and the numbers.
-abbrev pub FeedsLent : ℕ → ℕ → ℕ → ℕ → ℕ → LentBytes → LentBytes → LentNumbers → Counts → Type 0
+abbrev pub FeedsLent : ℕ → ℕ → ℕ → ℕ → ℕ → LentBytes → ReadBytes → LentNumbers → Counts → Type 0
 FeedsLent family closed count at skipped held offered numbers c =
     FeedsRowAt family closed count held.entry.now at skipped offered.entry.now numbers.entry.now c held.exit.now numbers.exit.now

@@ -6,7 +6,7 @@ use Rattle.rules.specs.Sentences.{longest_payload}
 use Rattle.rules.specs.Status.{report_length}
 use Rattle.stream_rules.specs.Heads.{sentence_brackets, is_inner}
 use Rattle.stream_rules.specs.Streams.{place_count}
-use Rattle.held_bytes.specs.Held.{LentBytes}
+use Rattle.held_bytes.specs.Held.{ReadBytes}
 use Rattle.spe.specs.Ends.{begins_report}
 use Rattle.search.specs.Sought.{sought_in}
 use Rattle.search.specs.declared.Sought.TheVariants.{Waiting}
@@ -31,5 +31,5 @@ pub record GoesOn (family count : ℕ) (held others : List ℕ) : Type 0 where
   pub undecided : sought_in family (take count held ++ others) ≡ Waiting 0
 
 -- The same of lent places, of which there are as many as their type says.
-abbrev pub GoesOnLent : ℕ → ℕ → LentBytes → LentBytes → Type 0
+abbrev pub GoesOnLent : ℕ → ℕ → ReadBytes → ReadBytes → Type 0
 GoesOnLent family count held others = length held.entry.now ≡ place_count → GoesOn family count held.entry.now others.entry.now

@@ -4,7 +4,7 @@ use Rattle.rules.specs.Answers.{replies}
 use Rattle.stream_rules.specs.Streams.{wrap}
 use Rattle.spe.specs.Ends.{begins_report}
 use Rattle.rows.specs.Rows.{more_row, longest_row, row, row_without, front, LentNumbers}
-use Rattle.held_bytes.specs.Held.{LentBytes}
+use Rattle.held_bytes.specs.Held.{ReadBytes}
 use Rattle.search.specs.Sought.{sought_in}
 use Rattle.search.specs.declared.Sought.{Sought}
 use Rattle.search.specs.declared.Sought.TheVariants.{Ready, Waiting}
@@ -35,6 +35,6 @@ pub record RoomToSeek (count : ℕ) (bs : List ℕ) (numbers : List ℤ) : Type 
   pub row : longest_row ≤ length numbers
 
 -- What it gives, in lent numbers.
-abbrev pub SeeksRow : ℕ → LentBytes → ℕ → ℕ → ℕ → LentNumbers → Stop → Type 0
+abbrev pub SeeksRow : ℕ → ReadBytes → ℕ → ℕ → ℕ → LentNumbers → Stop → Type 0
 SeeksRow family s count at skipped numbers stop =
     LaysSought (length s.entry.now) count at skipped (sought_in family s.entry.now) numbers.entry.now stop numbers.exit.now

@@ -4,7 +4,7 @@ use Rattle.rules.specs.Answers.{is_family}
 use Rattle.stream_rules.specs.Heads.{longest}
 use Rattle.stream_rules.specs.Streams.{place_count, wrap}
 use Rattle.held_bytes.specs.Places.{reader_at}
-use Rattle.held_bytes.specs.Held.{LentBytes}
+use Rattle.held_bytes.specs.Held.{LentBytes, ReadBytes}
 use Rattle.rows.specs.Rows.{longest_row, LentNumbers}
 use Rattle.row_stream.specs.FedRows.{FeedsRow}
 
@@ -31,6 +31,6 @@ pub record FrontRow (family at skipped : ℕ) (offered held : List ℕ) (numbers
   pub none : n ≡ 0 → (places ≡ held) × (left ≡ numbers)
   pub handed : (n ≡ 0 → ⊥) → FeedsRow (reader_at family 0 0 held at skipped) offered numbers 0 (reader_at family 0 0 places (wrap (at + n)) 0) left
 
-abbrev pub FrontLent : ℕ → ℕ → ℕ → LentBytes → LentBytes → LentNumbers → ℕ → Type 0
+abbrev pub FrontLent : ℕ → ℕ → ℕ → LentBytes → ReadBytes → LentNumbers → ℕ → Type 0
 FrontLent family at skipped held offered numbers n =
     FrontRow family at skipped offered.entry.now held.entry.now numbers.entry.now n held.exit.now numbers.exit.now

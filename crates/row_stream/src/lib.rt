@@ -1,6 +1,8 @@
 // A call on a stream reader that comes in its parts, its held places lent, with the row of what it answers. The reader
 // behind a reference is fed through here. `feed_any` is the general way, and alone is right; `short_ways` has ways of
 // which each serves only some calls, and without which every call is answered the same.
+#![tactic(auto)]
+
 mod short_ways;
 
 ghost use Rattle.std.specs.Prelude.{◌≡◌};
@@ -12,7 +14,7 @@ use rows::{LONGEST_ROW, lay_answer};
 use stream_rules::PLACES;
 
 // The number that a call gives, and what it leaves of a reader beside its held places.
-#[derive(Drop)]
+#[derive(Clone, Copy)]
 pub struct Counts {
     pub number: u32,
     pub count: u8,

@@ -6,13 +6,14 @@ use crate::fits::{BYTE, WORD, byte_at, fit, fits_signed, temperature_at, value_a
 use rules::{Clock, Frame, STATUS_VALUES, Sentence02, Sentence03, Sentence05, Status};
 
 // What a caller gives: a frame, or nothing, where no record can hold the values or there is no such kind.
-#[derive(Drop)]
+#[derive(Clone, Copy)]
 pub enum Given {
     AFrame(Frame),
     Nothing,
 }
 
 // Ten bytes, eight words, three bytes.
+#[tactic(auto, unfolding(crate::specs::Given::is_status_row))]
 pub(crate) fn is_status_row(values: &[i64]) -> bool
     ensures { result ≡ is_status_row values.now }
 {
@@ -23,6 +24,7 @@ pub(crate) fn is_status_row(values: &[i64]) -> bool
 }
 
 // The same for a record of so many numbers, each up to the same limit.
+#[tactic(auto, unfolding(crate::specs::Given::is_row_of))]
 pub(crate) fn is_row(values: &[i64], count: usize, limit: u32) -> bool
     ensures { result ≡ is_row_of count limit values.now }
 {
@@ -32,6 +34,7 @@ pub(crate) fn is_row(values: &[i64], count: usize, limit: u32) -> bool
     fit(&values[..count], limit)
 }
 
+#[tactic(auto, unfolding(crate::specs::Given::is_row03))]
 pub(crate) fn is_row03(values: &[i64]) -> bool
     ensures { result ≡ is_row03 values.now }
 {
@@ -41,6 +44,7 @@ pub(crate) fn is_row03(values: &[i64]) -> bool
     fit(&values[..8], WORD) & fits_signed(value_at(values, 8))
 }
 
+#[tactic(auto, unfolding(crate::specs::Given::clock_from))]
 pub(crate) fn clock_from(values: &[i64]) -> Clock
     ensures { result ≡ clock_from values.now }
 {
@@ -54,6 +58,7 @@ pub(crate) fn clock_from(values: &[i64]) -> Clock
     }
 }
 
+#[tactic(auto, unfolding(crate::specs::Given::status_from))]
 pub(crate) fn status_from(values: &[i64]) -> Status
     ensures { result ≡ status_from values.now }
 {
@@ -82,6 +87,7 @@ pub(crate) fn status_from(values: &[i64]) -> Status
     }
 }
 
+#[tactic(auto, unfolding(crate::specs::Given::from02))]
 pub(crate) fn from02(values: &[i64]) -> Sentence02
     ensures { result ≡ from02 values.now }
 {
@@ -102,6 +108,7 @@ pub(crate) fn from02(values: &[i64]) -> Sentence02
     }
 }
 
+#[tactic(auto, unfolding(crate::specs::Given::from03))]
 pub(crate) fn from03(values: &[i64]) -> Sentence03
     ensures { result ≡ from03 values.now }
 {
@@ -118,6 +125,7 @@ pub(crate) fn from03(values: &[i64]) -> Sentence03
     }
 }
 
+#[tactic(auto, unfolding(crate::specs::Given::from05))]
 pub(crate) fn from05(values: &[i64]) -> Sentence05
     ensures { result ≡ from05 values.now }
 {

@@ -1,5 +1,7 @@
 // The writers for a caller that gives plain numbers: a frame by its kind, its code and a row of
 // values, and a place for the length. The answer is 0, or the number for no.
+#![tactic(auto)]
+
 mod fits;
 mod given;
 
@@ -21,6 +23,7 @@ use rules::{Behind, Frame, Message, NO_CODE, NO_RECORD, Written};
 const IS_NO_CODE: u32 = NO_CODE as u32;
 
 // A frame by the writer of its kind; another sentence has none.
+#[tactic(auto, unfolding(rules::specs::Answers::allowed, rules::specs::Answers::bytes_of))]
 pub fn write_frame(f: Frame, out: &mut [u8]) -> Written
     ensures { Writes (allowed f) (not_allowed (kind_of f)) (bytes_of f) out.old result out.new }
 {
@@ -37,6 +40,7 @@ pub fn write_frame(f: Frame, out: &mut [u8]) -> Written
 }
 
 // The sentence of a number, where the row fits its record.
+#[tactic(auto, unfolding(crate::specs::Given::sentence_given))]
 fn sentence_given(number: u32, values: &[i64]) -> Given
     ensures { result ≡ sentence_given number values.now }
 {
@@ -61,6 +65,7 @@ fn sentence_given(number: u32, values: &[i64]) -> Given
 }
 
 // The response with these letters, where the row fits what may stand behind them.
+#[tactic(auto, unfolding(crate::specs::Given::response_given))]
 fn response_given(letters: u32, values: &[i64]) -> Given
     ensures { result ≡ response_given letters values.now }
 {
@@ -90,6 +95,7 @@ fn response_given(letters: u32, values: &[i64]) -> Given
 }
 
 // The frame of a kind. A code that a frame holds has to be a byte.
+#[tactic(auto, unfolding(crate::specs::Given::frame_given))]
 fn frame_given(kind: u32, code: u32, values: &[i64]) -> Given
     requires { (ltb 255 code && (eqb kind 1 || eqb kind 3)) ≡ false }
     ensures { result ≡ frame_given kind code values.now }

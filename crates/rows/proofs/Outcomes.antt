@@ -1,20 +1,17 @@
--- What each way out of a function that lays a row shows: the row is too long, or it stands at the front.
+-- What each way out of a function that lays an answer shows: its row stands at the front, or it is a refusal, which has none.
 -- Assumes nothing.
-use Prim.Native.Nat.{ℕ, ◌<◌, ◌≤◌}
+use Prim.Native.Nat.{ℕ, ◌≤◌}
 use mathlib.Core.Path.{◌≡◌, refl}
 use mathlib.Core.Bool.{Bool, true, false, cond}
 use mathlib.Core.List.{List, []}
-use borrow.Author.Tests.{le-leb, lt-leb}
+use borrow.Author.Tests.{le-leb}
 use lib.Dec.{eqb}
 use lib.IntN.{ℤ}
 use lib.ListN.{length}
-use Rattle.rules.specs.Answers.{Answered, no, yes, no_room}
+use Rattle.rules.specs.Answers.{Answered, no, yes}
 use Rattle.rows.specs.Rows.{front, LaysRow, Lays}
 
 module _ {r numbers : List ℤ} where
-  pub too_long : length numbers < length r → LaysRow r numbers no_room numbers
-  too_long h = record { answers = rw (lt-leb _ _ h); content = refl }
-
   pub at_the_front : {after : List ℤ} → length r ≤ length numbers → after ≡ front r numbers → LaysRow r numbers 0 after
   at_the_front h laid = record { answers = rw (le-leb _ _ h); content = laid }
 

@@ -1,7 +1,7 @@
 -- A frame, and what a call answers, as a row of numbers in lent memory: what a C program is handed. A row is its kind, its
 -- code, the bytes taken, the frame's start, the bytes skipped and its length, and behind these six the frame's values.
 use Rattle.std.specs.Prelude.{ℕ, ◌+◌, ◌≤◌, ◌%◌, ◌^◌, ◌≡◌, cond, List, [], ◌∷◌, ◌++◌, eqb, leb, ℤ, pos, length, take, drop}
-use Rattle.std.specs.Borrow.{Bor}
+use Rattle.std.specs.Borrow.{MutBor}
 use denote.Triple.Both.{Both}
 use Rattle.rules.specs.Answers.{Says, no, yes, no_room, kind_of, status_values, values}
 use Rattle.rules.specs.declared.Frame.{Frame}
@@ -140,7 +140,7 @@ pub record Lays (answer : Says) (r numbers : List ℤ) (result : ℕ) (after : L
 -- Numbers that are lent to a function: as they are passed, and as they are left. And the same of a row and of an answer
 -- in lent numbers.
 abbrev pub LentNumbers : Type 0
-LentNumbers = Both (Bor (List ℤ)) (Bor (List ℤ))
+LentNumbers = Both (MutBor (List ℤ)) (MutBor (List ℤ))
 
 abbrev pub RowIn : LentNumbers → ℕ → List ℤ → Type 0
 RowIn numbers result r = LaysRow r numbers.entry.now result numbers.exit.now

@@ -1,4 +1,6 @@
 // Frames and answers as rows of numbers, which a C program reads.
+#![tactic(auto)]
+
 mod laying;
 mod reading;
 

@@ -1,6 +1,7 @@
 // What is read and written: the records of the four families, the frame that holds one of them,
 // and the answers of a reader and of a writer. The rules for them stand in specs/. Also the numbers of
 // documents 01 and 02 that more than one room needs, each here once.
+#![tactic(auto)]
 
 // The families: replies of an SPE amplifier, sentences of the Alpha 9500, commands to an SPE amplifier, messages to and from
 // a KPA1500.
@@ -104,7 +105,7 @@ pub const SHORTEST_FRAME: usize = SHORTEST_MESSAGE;
 
 // A status report of an SPE amplifier: fields 1 to 19 of document 01, of which 7 holds two, and which of its two forms it
 // has. Letters are kept as their ASCII bytes.
-#[derive(Drop)]
+#[derive(Clone, Copy)]
 pub struct Status {
     // 20 for 20K, 13 for 13K
     pub id: u8,
@@ -144,7 +145,7 @@ pub struct Status {
 }
 
 // Sentence 02 of the Alpha 9500, by the names of its format line in source document 001.
-#[derive(Drop)]
+#[derive(Clone, Copy)]
 pub struct Sentence02 {
     pub pfwd: u32,
     pub swr: u32,
@@ -162,7 +163,7 @@ pub struct Sentence02 {
 }
 
 // Sentence 03: five supply voltages, the AC line, the mains board's status and tap, the temperature.
-#[derive(Drop)]
+#[derive(Clone, Copy)]
 pub struct Sentence03 {
     pub v5: u32,
     pub v12: u32,
@@ -177,7 +178,7 @@ pub struct Sentence03 {
 }
 
 // Sentence 05: the two nibbles of each of its first four fields, then three numbers.
-#[derive(Drop)]
+#[derive(Clone, Copy)]
 pub struct Sentence05 {
     pub band: u8,
     pub segment: u8,
@@ -193,7 +194,7 @@ pub struct Sentence05 {
 }
 
 // The date and the time of a KPA1500's clock.
-#[derive(Drop)]
+#[derive(Clone, Copy)]
 pub struct Clock {
     // 0 to 99, for 2000 to 2099
     pub year: u8,
@@ -206,7 +207,7 @@ pub struct Clock {
 
 // Up to 38 capital letters, four to a number: their bytes, the first the highest. The number in which they end holds
 // those that are left, and the numbers behind it are 0.
-#[derive(Drop)]
+#[derive(Clone, Copy)]
 pub struct Letters {
     pub first: u32,
     pub second: u32,
@@ -222,7 +223,7 @@ pub struct Letters {
 
 // A message of the KPA1500. A question holds its letters, as one number; so does a response that is a number, beside that.
 // A version has two numbers. A tune starts or has ended. Letters that are not listed come with nothing else.
-#[derive(Drop)]
+#[derive(Clone, Copy)]
 pub enum Message {
     Question(u32),
     Number(u32, u32),
@@ -234,7 +235,7 @@ pub enum Message {
 
 // What may stand behind the letters of a response: a number, with how many digits it has and its limit; a version; a date
 // and a time; nothing at all; and, behind letters that are not listed, anything.
-#[derive(Drop)]
+#[derive(Clone, Copy)]
 pub enum Behind {
     ANumber(usize, u32),
     AVersion,
@@ -245,7 +246,7 @@ pub enum Behind {
 
 // One good frame of any family. An acknowledgement and a command hold their code, another sentence
 // its number.
-#[derive(Drop)]
+#[derive(Clone, Copy)]
 pub enum Frame {
     Ack(u8),
     Status(Status),
@@ -259,7 +260,7 @@ pub enum Frame {
 
 // The kind of a frame: an acknowledgement or a command with its code, a status report, a sentence with its number, or
 // a question, a response or another message with its letters.
-#[derive(Drop)]
+#[derive(Clone, Copy)]
 pub enum Kind {
     OfAck(u8),
     OfStatus,
@@ -271,14 +272,14 @@ pub enum Kind {
 }
 
 // The answer of a reader of one frame.
-#[derive(Drop)]
+#[derive(Clone, Copy)]
 pub enum Reading {
     Good(Frame),
     Refused(u8),
 }
 
 // The answer of a writer: how many bytes it wrote.
-#[derive(Drop)]
+#[derive(Clone, Copy)]
 pub enum Written {
     Length(usize),
     Refused(u8),

@@ -17,7 +17,6 @@ use Rattle.stream_laws.specs.Settled.{settled, reach}
 use Rattle.stream_laws.proofs.Course.{head_of_decided}
 use Rattle.stream_laws.proofs.Heads.{settling}
 use Rattle.search.specs.Sought.{AtStop, Walks, Unmarked, Stops}
-use Rattle.search.specs.declared.Stop.{Stop}
 use Rattle.search.proofs.Passing.{SettledBy, BadBy, unmarked}
 
 module _ (family : ℕ) (bs : List ℕ) where

@@ -7,7 +7,7 @@ ghost use Rattle.search.specs.Seen.{seen};
 use starts::{bytes_needed, inner_bytes, mark_of};
 use stream_rules::Brackets;
 
-#[derive(Drop)]
+#[derive(Clone, Copy)]
 pub(crate) enum Seen {
     // so many bytes, which the reader of one frame decides as a whole
     Whole(usize),

@@ -1,6 +1,8 @@
 // Walks the starts of some bytes: to the first that is not bad, or to the first good frame. Starts that a byte
 // further on rules out are passed together; any other is examined once, and a frame is read only where
 // nothing rules it out.
+#![tactic(auto)]
+
 mod heads;
 
 ghost use Rattle.std.specs.Prelude.{◌≡◌, true, false, ◌≤◌, ◌<◌, length, get_or};
@@ -17,7 +19,7 @@ use texts::further;
 
 // A good frame whose earlier starts are all bad: its place, its length, how far the bytes reach that
 // settled it and those, and what it says.
-#[derive(Drop)]
+#[derive(Clone, Copy)]
 pub struct Hit {
     pub start: usize,
     pub length: usize,
@@ -26,14 +28,14 @@ pub struct Hit {
 }
 
 // The first start that is not bad: a good frame, or the place of an undecided one.
-#[derive(Drop)]
+#[derive(Clone, Copy)]
 pub enum Sought {
     Ready(Hit),
     Waiting(usize),
 }
 
 // The first good frame: its place, its length, and what it says.
-#[derive(Drop)]
+#[derive(Clone, Copy)]
 pub enum First {
     At(usize, usize, Frame),
     Nothing,
@@ -57,7 +59,7 @@ fn ruled_out(family: u8, s: &[u8]) -> bool
 // A start that is not passed over: its place, the length of the frame that may stand there, and how far the
 // bytes reach that settled the starts before it, exact where that is behind the bytes that even the shortest
 // frame there has. The length is 0 where the start is undecided, or the bytes end.
-#[derive(Drop)]
+#[derive(Clone, Copy)]
 pub struct Stop {
     pub at: usize,
     pub length: usize,
@@ -66,8 +68,8 @@ pub struct Stop {
 
 // Whether a mark stands where the count of a start would.
 fn mark_for_count(mark: u8, start: &[u8]) -> bool
-    ensures in_bounds { result ≡ true → (4 ≤ length start.now) × (get_or start.now 3 0 ≡ mark) }
-    ensures fact { result ≡ false → 4 ≤ length start.now → get_or start.now 3 0 ≡ mark → ⊥ }
+    ensures there { result ≡ true → (4 ≤ length start.now) × (get_or start.now 3 0 ≡ mark) }
+    ensures not_there { result ≡ false → 4 ≤ length start.now → get_or start.now 3 0 ≡ mark → ⊥ }
 {
     if start.len() < 4 {
         return false;

@@ -75,7 +75,7 @@ module _ (t : ℕ → Bool) where
   rules-by-field : rules_in_order ≡ rules_by_field
   unfolding every one_of
   rules-by-field =
-      simp (and_assoc, and-true) (simp (and_assoc, and-true) at (in_any_order t rule_order field_order refl refl))
+      simp and_assoc (simp and-true at (in_any_order t rule_order field_order refl refl))
 
   abbrev tests_in_order : Bool
   tests_in_order =

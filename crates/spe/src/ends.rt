@@ -20,6 +20,7 @@ pub fn begins_report(s: &[u8]) -> bool
 }
 
 // 1 where a comma stands behind the checksum of a report that starts at the first byte, else 0.
+#[tactic(auto, unfolding(rules::specs::Status::comma_in))]
 pub fn comma_in(s: &[u8]) -> u8
     ensures { result ≡ comma_in s.now }
 {

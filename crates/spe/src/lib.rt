@@ -1,5 +1,7 @@
 // Reads one frame of an SPE amplifier: a reply of family 1, or a command of family 3. A frame is tested
 // as a whole, and only what a good one says is read; of a report also as numbers.
+#![tactic(auto)]
+
 mod codes;
 mod ends;
 mod packets;
@@ -19,13 +21,14 @@ pub use status::is_status;
 use texts::{text, wide};
 
 // Whether some bytes are a status report, and its values as numbers.
-#[derive(Drop)]
+#[derive(Clone, Copy)]
 pub struct ReportNumbers {
     pub good: bool,
     pub numbers: [u32; STATUS_VALUES],
 }
 
 // The number in two bytes of a good report: a digit counts as itself, a space before it as nothing.
+#[tactic(auto, unfolding(crate::specs::Report::weighed))]
 fn two_at(d: &[u8], a: usize) -> u8
     requires { a + 2 ≤ length d.now }
     ensures { result ≡ weighed 0 (part a 2 d.now) }

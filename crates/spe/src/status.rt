@@ -42,6 +42,7 @@ fn spaces(marks: &[u8], d: &[u8]) -> bool
 }
 
 // Whether the letter is one of a warning, and below of an alarm.
+#[tactic(auto, unfolding(rules::specs::Bytes::one_of))]
 fn is_warning(b: u8) -> bool
     ensures { result ≡ one_of warnings b }
 {
@@ -60,6 +61,7 @@ fn is_warning(b: u8) -> bool
         | (b == b'N')
 }
 
+#[tactic(auto, unfolding(rules::specs::Bytes::one_of))]
 fn is_alarm(b: u8) -> bool
     ensures { result ≡ one_of alarms b }
 {

@@ -1,4 +1,6 @@
 // Writers of the SPE families: acknowledgements and commands, and the status report with the ranges of its fields.
+#![tactic(auto)]
+
 mod packets;
 mod ranges;
 mod status;

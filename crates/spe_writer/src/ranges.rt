@@ -54,6 +54,7 @@ fn fields_in_range(s: Status) -> bool
 }
 
 // Whether a report can hold them, in one of its two forms.
+#[tactic(auto, unfolding(rules::specs::Status::status_in_range))]
 pub(crate) fn status_in_range(s: Status) -> bool
     ensures { result ≡ status_in_range s }
 {

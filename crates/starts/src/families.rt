@@ -13,6 +13,7 @@ pub fn is_spe(family: u8) -> bool
 }
 
 // Whether the number is that of a family.
+#[tactic(auto, unfolding(rules::specs::Bytes::one_of))]
 pub fn is_family(family: u8) -> bool
     ensures { result ≡ is_family family }
 {

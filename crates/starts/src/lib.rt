@@ -1,5 +1,7 @@
 // Starts: what one is known by, which is the number of its family, its mark and how many bytes it needs, or its brackets and
 // the bytes between them; and stamps, the places of starts in a stream.
+#![tactic(auto)]
+
 mod brackets;
 mod families;
 mod marks;

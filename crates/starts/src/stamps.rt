@@ -14,6 +14,7 @@ pub fn advanced(count: u32, by: usize) -> u32
 }
 
 // How stamp a stands to stamp b, by the bytes from a to b.
+#[tactic(auto, unfolding(stream_rules::specs::Lister::order))]
 pub fn stamp_order(a: u32, b: u32) -> Order
     ensures { result ≡ order a b }
 {

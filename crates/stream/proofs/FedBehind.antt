@@ -7,7 +7,7 @@ use mathlib.Core.List.{[], ◌∷◌, List}
 use Prim.Native.Nat.{ℕ}
 use lib.ListN.{length}
 use seplogic.Ra.Ura.{Ura}
-use mir.Syntax.{named}
+use mir.Syntax.{named, w8}
 use mir.Val.{Val}
 use base.Logic.{SProp, ent, sep, snd∗, ex_e}
 use base.Fml.{Fml, Lft, Share, ftrue, flft}
@@ -18,6 +18,7 @@ use contract.Monad.{Fun, fact}
 use types.Kit.{Item, ‵, raw, ◌⊛◌, ⋆, ◌$◌, ◌∵◌, !, qed, move, use1, use2, split, join, fjoin, frame, done}
 use denote.RattleType.{owns}
 use denote.Laws.{Is}
+use denote.Plain.{uint_row_laws}
 use denote.Builtin.{u8}
 use denote.Ref.{Bor}
 use denote.Slice.{slice_val, ShrSlice, shr_slice_copy}
@@ -69,7 +70,7 @@ module _ {M : Type 1} {𝓤 : Ura M} (𝓛 : Logic 𝓤) (at_mem : Memory → SP
   pub apart : ent 𝓤 (⋆ 𝓛 (‵ ((R.the_row).own_val h (vals h)) ∷ ‵ Own ∷ Token ∷ [])) (sep 𝓤 ((Feed 𝓛 at_mem run).pre to) (sem 𝓛 Own))
   apart =
       qed 𝓛 (‵ ((R.the_row).own_val h (vals h)) ∷ ‵ Own ∷ Token ∷ []) ∵
-      move ! (1 ∷ []) $ use1 𝓛 (‵ Own ⊛ ‵ Own) ((shr_slice_copy 𝓛 (named 1) κ' u8).twice s (v ∷ [])) $ split ! $
+      move ! (1 ∷ []) $ use1 𝓛 (‵ Own ⊛ ‵ Own) ((shr_slice_copy 𝓛 (named 1) κ' u8 (uint_row_laws w8)).twice s (v ∷ [])) $ split ! $
       -- [what the slice owns, twice; what the reader owns; the token]
       nothing ! $ move ! (1 ∷ 0 ∷ []) $ fjoin ! $ move ! (2 ∷ 0 ∷ []) $ fjoin ! $
       move ! (2 ∷ 0 ∷ []) $ use2 𝓛 (raw ((Feed 𝓛 at_mem run).pre to)) asked $ frame ! $ done !

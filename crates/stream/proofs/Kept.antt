@@ -1,13 +1,13 @@
 -- A reader in a local, in a walk: it is lent by `&mut` to `feed_lent` or to `close_lent` for a lifetime that is made for the
 -- call, and taken back after it at the reader that the call left (`Lending.antt`). Between the two steps stands the call.
---     lends-to-feed, lends-to-close      the local's cell is given up for what the call asks, and the lender's part
---     takes-from-feed, takes-from-close      what the call leaves gives the cell back, with what the call ensures in hand
+--     lends_to_feed, lends_to_close      the local's cell is given up for what the call asks, and the lender's part
+--     takes_from_feed, takes_from_close      what the call leaves gives the cell back, with what the call ensures in hand
 -- All that they know of the two functions is the contract that each meets. An answer and an outcome own only facts.
 -- Assumes nothing.
 use Prim.Native.Nat.{ℕ}
 use mathlib.Core.List.{List, [], ◌∷◌}
 use seplogic.Ra.Ura.{Ura}
-use seplogic.Ra.TreeShare.{full_share}
+use base.Fraction.{full_share}
 use mir.Syntax.{named}
 use mir.Val.{Val, vptr}
 use base.Logic.{SProp, ent, sep, id⊢}
@@ -21,7 +21,7 @@ use types.SemTy.{Body}
 use denote.Laws.{Is, shows}
 use denote.Memory.{mem}
 use denote.Builtin.{u8}
-use denote.Ref.{Bor, MutBor, MutRef}
+use denote.Ref.{Bor, MutRef}
 use denote.Slice.{ShrSlice}
 use denote.Steps.{facts, heard, nothing}
 use denote.Triple.Clauses.{ensured, lasts}
@@ -52,7 +52,7 @@ module _ {M : Type 1} {𝓤 : Ura M} (𝓛 : Logic 𝓤) (at_mem : Memory → SP
   -- `feed_lent`, on the reader r in the local l, lent for the lifetime ν under the name γ, and on the bytes s
   open 𝓛 use {A}
 
-  module _ (κ : Lft) (q : Share) (s : MutBor (List ℕ)) (m : Val) (r : Reader) (ν l : ℕ) (γ : GName) where
+  module _ (κ : Lft) (q : Share) (s : Bor (List ℕ)) (m : Val) (r : Reader) (ν l : ℕ) (γ : GName) where
     abbrev pub to_feed : (FeedLent 𝓛 at_mem run).Ghost
     to_feed = (((ν ∷ [], (κ, tt)), (full_share, (q, tt)), tt, (local_ref r l γ, (s, tt)), (vptr l 0 ∷ [], (m ∷ [], tt))), tt)
 
@@ -83,7 +83,7 @@ module _ {M : Type 1} {𝓤 : Ura M} {𝓛 : Logic 𝓤} {K : Type 0} {Γ : List
       lends_local k z R.the_type R'.the_plain r v l is (λ ν γ. join k $ move k (0 ∷ 2 ∷ 3 ∷ []) $
       use3 𝓛 (raw ((FeedLent 𝓛 at_mem run).pre (to_feed 𝓛 at_mem run κ q s m r ν l γ))) (goes_feed 𝓛 at_mem run κ q s m r ν l γ) $ called ν γ)
 
-  pub takes_from_feed : K → Soaks G → (at_mem : Memory → SProp 𝓤) (run : Routine → Fun 𝓤) (κ : Lft) (q : Share) (s : MutBor (List ℕ)) (m : Val) (r : Reader) (ν l : ℕ) (γ : GName) (w : Val)
+  pub takes_from_feed : K → Soaks G → (at_mem : Memory → SProp 𝓤) (run : Routine → Fun 𝓤) (κ : Lft) (q : Share) (s : Bor (List ℕ)) (m : Val) (r : Reader) (ν l : ℕ) (γ : GName) (w : Val)
       → ((n : Answer) (y : Reader) (u : Val) → Feeds r s.now (left y n) → Is N.the_row n (w ∷ []) → Is R.the_row y (u ∷ []) → Seq K 𝓛 (‵ (fat full_share R'.mir l 0 u) ∷ ‵ (flft κ q) ∷ Γ) G)
       → Seq K 𝓛 (raw ((FeedLent 𝓛 at_mem run).post (to_feed 𝓛 at_mem run κ q s m r ν l γ) w) ∷ ‵ (flent (ν ∷ []) (Body (mem R.the_row) l 0 γ)) ∷ Γ) G
   takes_from_feed k z at_mem run κ q s m r ν l γ w taken =
@@ -93,7 +93,7 @@ module _ {M : Type 1} {𝓤 : Ura M} {𝓛 : Logic 𝓤} {K : Type 0} {Γ : List
       split k $ move k (1 ∷ []) $ heard k (Feeds r s.now (left ys.0 n)) (λ e. fsplit k $ move k (1 ∷ []) $ drop k $
       move k (1 ∷ []) $ split k $ move k (1 ∷ []) $ facts k N.the_row (Is N.the_row) (shows 𝓛 N.the_row) n (w ∷ []) (λ is_n.
       -- [the tokens; the last reader; the lender's part]
-      split k $ move k (0 ∷ 3 ∷ 2 ∷ []) $ takes_back k z R.the_type R'.the_laws ν γ ys.0 l (λ u is_y. move k (1 ∷ []) $ split k $ move k (1 ∷ []) $ drop k $ move k (1 ∷ 0 ∷ []) $ taken n ys.0 u e is_n is_y)))))
+      split k $ move k (2 ∷ []) $ fsplit k $ move k (1 ∷ []) $ drop k $ move k (1 ∷ 3 ∷ 0 ∷ []) $ takes_back k z R.the_type R'.the_laws ν γ ys.0 l (λ u is_y. move k (1 ∷ []) $ split k $ move k (1 ∷ []) $ drop k $ move k (1 ∷ 0 ∷ []) $ taken n ys.0 u e is_n is_y)))))
 
   pub lends_to_close : K → Soaks G → (at_mem : Memory → SProp 𝓤) (run : Routine → Fun 𝓤) (r : Reader) (v : Val) (l : ℕ) → Is R.the_row r (v ∷ [])
       → ((ν : ℕ) (γ : GName) → Seq K 𝓛 (raw ((CloseLent 𝓛 at_mem run).pre (to_close 𝓛 at_mem run r ν l γ)) ∷ ‵ (flent (ν ∷ []) (Body (mem R.the_row) l 0 γ)) ∷ Γ) G)
@@ -111,4 +111,4 @@ module _ {M : Type 1} {𝓤 : Ura M} {𝓛 : Logic 𝓤} {K : Type 0} {Γ : List
       split k $ move k (1 ∷ []) $ heard k (Shuts r (turned ys.0 o)) (λ e. fsplit k $ move k (1 ∷ []) $ drop k $
       move k (1 ∷ []) $ split k $ move k (1 ∷ []) $ facts k O.the_row (Is O.the_row) (shows 𝓛 O.the_row) o (w ∷ []) (λ is_o.
       -- [the token; the last reader; the lender's part]
-      split k $ move k (0 ∷ 3 ∷ 2 ∷ []) $ takes_back k z R.the_type R'.the_laws ν γ ys.0 l (λ u is_y. move k (1 ∷ []) $ drop k $ taken o ys.0 u e is_o is_y)))))
+      split k $ move k (2 ∷ []) $ fsplit k $ move k (1 ∷ []) $ drop k $ move k (1 ∷ 3 ∷ 0 ∷ []) $ takes_back k z R.the_type R'.the_laws ν γ ys.0 l (λ u is_y. move k (1 ∷ []) $ drop k $ taken o ys.0 u e is_o is_y)))))

@@ -2,12 +2,12 @@
 -- part's does at the part's own machine value, and where each part's holds, the reader's does.     Parts r
 -- each part's relation     parts, of_parts      each part's from the reader's, and the reader's from each part's
 -- places           how many held places there are     low r            the machine values of the parts     held,
--- held-val, held_tells, held_plain       the held places as a field (`Fields`): their type, their machine value, that
+-- held_val, held_tells, held_plain       the held places as a field (`Fields`): their type, their machine value, that
 -- they have no other, and that they own only facts
 -- Assumes nothing.
-use mathlib.Core.Path.{◌≡◌, sym, subst}
+use mathlib.Core.Path.{◌≡◌}
 use Prim.Native.Nat.{ℕ}
-use mathlib.Core.List.{List, [], ◌∷◌, map, map-id}
+use mathlib.Core.List.{List, [], ◌∷◌, map}
 use lib.ListN.{length}
 use mir.Syntax.{w8, w32, ty_int, ty_array}
 use mir.Val.{Val, Vals, vint, vnil, vcons}
@@ -58,7 +58,7 @@ parts r is = record {
   family_is = all.0;
   closed_is = all.1.0;
   count_is = all.1.1.0;
-  held_is = subst Holds (map-id r.held) all.1.1.1.0;
+  held_is = all.1.1.1.0;
   at_is = all.1.1.1.1.0;
   skipped_is = all.1.1.1.1.1.0;
 }
@@ -72,4 +72,4 @@ places r p = p.held_is.1.0.1
 
 pub of_parts : (r : Reader) → Parts r → Is R.the_row r (vals r)
 of_parts r p = as_spelt r (LL.vals R.the_type R'.the_laws r)
-    (LL.owes R.the_type R'.the_laws r (p.family_is, (p.closed_is, (p.count_is, (subst Holds (sym (map-id r.held)) p.held_is, (p.at_is, (p.skipped_is, tt)))))))
+    (LL.owes R.the_type R'.the_laws r (p.family_is, (p.closed_is, (p.count_is, (p.held_is, (p.at_is, (p.skipped_is, tt)))))))

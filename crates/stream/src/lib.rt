@@ -1,4 +1,6 @@
 // The stream reader, by value and lent. `held_bytes` has a call on its parts.
+#![tactic(auto)]
+
 mod lent;
 mod readers;
 

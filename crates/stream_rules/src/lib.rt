@@ -1,5 +1,7 @@
 // What a stream reader holds and answers, and how two stamps stand to each other. The rules for
 // them stand in specs/.
+#![tactic(auto)]
+
 use rules::{Frame, SHORTEST_FRAME};
 
 // The held places of a reader: one fewer than the longest frame of any family has bytes.
@@ -7,7 +9,7 @@ pub const PLACES: usize = 133;
 
 // What a sentence and a message stand between: an opening byte; text bytes that are neither of the two, and no more than so
 // many; a closing byte; and so many bytes behind it.
-#[derive(Drop)]
+#[derive(Clone, Copy)]
 pub struct Brackets {
     pub opening: u8,
     pub closing: u8,
@@ -23,7 +25,7 @@ pub const LONGEST_LIST: usize = LONGEST_CAPTURE / SHORTEST_FRAME;
 // A reader of one family's stream. Every value of it is a legal argument: the calls answer or refuse. A
 // C program holds one too, so its fields lie as C lays them, without gaps: 144 bytes.
 #[repr(C)]
-#[derive(Drop)]
+#[derive(Clone, Copy)]
 pub struct Reader {
     pub family: u8,
     // 0 until it is closed; any other value is closed
@@ -39,7 +41,7 @@ pub struct Reader {
 
 // A frame that is handed out: the bytes taken by the call, the frame's start in the stream and the
 // bytes skipped before it, both modulo 2^32, its length, and what it says.
-#[derive(Drop)]
+#[derive(Clone, Copy)]
 pub struct Ready {
     pub taken: usize,
     pub start: u32,
@@ -49,7 +51,7 @@ pub struct Ready {
 }
 
 // The answer of a call: a frame; or more bytes wanted, or done, with the bytes taken; or a refusal.
-#[derive(Drop)]
+#[derive(Clone, Copy)]
 pub enum Answer {
     Ready(Ready),
     More(usize),
@@ -58,35 +60,35 @@ pub enum Answer {
 }
 
 // A reader after a call, and what the call answered.
-#[derive(Drop)]
+#[derive(Clone, Copy)]
 pub struct Fed {
     pub reader: Reader,
     pub answer: Answer,
 }
 
 // The answer of making a reader and of closing one.
-#[derive(Drop)]
+#[derive(Clone, Copy)]
 pub enum Outcome {
     Accepted,
     Refused(u8),
 }
 
 // A reader that was made or closed, and what was answered.
-#[derive(Drop)]
+#[derive(Clone, Copy)]
 pub struct Turned {
     pub reader: Reader,
     pub outcome: Outcome,
 }
 
 // The answer of the lister: how many starts it filled in.
-#[derive(Drop)]
+#[derive(Clone, Copy)]
 pub enum Listed {
     Count(usize),
     Refused(u8),
 }
 
 // How stamp a stands to stamp b.
-#[derive(Drop)]
+#[derive(Clone, Copy)]
 pub enum Order {
     Earlier,
     Later,

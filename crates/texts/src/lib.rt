@@ -1,5 +1,7 @@
 // The leaves that readers and writers stand on: bytes, letters and bounds; the number in a row of digits; and where a
 // field ends. None asks anything of its caller.
+#![tactic(auto)]
+
 mod commas;
 mod numbers;
 mod parts;

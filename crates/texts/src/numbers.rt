@@ -5,7 +5,7 @@ ghost use Rattle.texts.specs.Numbers.{digits_in};
 use crate::parts::wide;
 
 // A number read from a text: the count is 0 where the text is none.
-#[derive(Drop)]
+#[derive(Clone, Copy)]
 pub struct Number {
     pub good: bool,
     pub count: u32,

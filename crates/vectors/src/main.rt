@@ -5,6 +5,8 @@
 // the lent reader. A line that begins with `#` is a heading and is printed as it is.
 //
 // What is printed is tested, not proved: the contracts only keep indices in range and say how a run goes on.
+#![tactic(auto)]
+
 mod panel;
 mod walks;
 
@@ -13,24 +15,26 @@ ghost use Rattle.std.specs.Prelude.{◌≤◌, length};
 use listings::print_listing;
 use replays::print_replay;
 use rules::Reading;
+use std::io;
 use std::num::wrapping_sub_u8;
 
 // Room for the bytes of a line.
 const ROOM: usize = 1024;
 
-fn main() {
-    let mut text = io::large_buffer();
-    let n = io::read_full(libc::STDIN_FILENO, &mut text);
-    print_all(&text[..n]);
+fn main(rt: HostRuntime) -> io::Result<()> {
+    let mut text = [0u8; 65536];
+    let n = lines::read_full(&rt, &mut text)?;
+    print_all(&rt, &text[..n])
 }
 
-fn print_all(text: &[u8]) {
+fn print_all(rt: &impl Print, text: &[u8]) -> io::Result<()> {
     let mut at = 0;
     while at < text.len() {
         let end = line_end(text, at);
-        print_answer(&text[at..end]);
+        print_answer(rt, &text[at..end])?;
         at = end + 1;
     }
+    Ok(())
 }
 
 // Where the line ends that has place a in it.
@@ -48,59 +52,53 @@ fn line_end(text: &[u8], a: usize) -> usize
     end
 }
 
-fn print_answer(line: &[u8]) {
+fn print_answer(rt: &impl Print, line: &[u8]) -> io::Result<()> {
     if line.len() < 2 {
-        lines::print_text(b"bad line");
-        return;
+        return lines::print_text(rt, b"bad line");
     }
     if line[0] == b'#' {
-        lines::print_text(line);
-        return;
+        return lines::print_text(rt, line);
     }
     if texts::one_of(b"lrwp", line[0]) {
-        print_run(line);
-        return;
+        return print_run(rt, line);
     }
     let family = wrapping_sub_u8(line[0], b'0');
     let frame = &line[2..];
     if 0 < frame.len() {
         if texts::one_of(b"$^", frame[0]) {
-            print_frame(family, frame);
-            return;
+            return print_frame(rt, family, frame);
         }
     }
-    print_hex(family, frame);
+    print_hex(rt, family, frame)
 }
 
 // What a letter asks for.
-fn print_run(line: &[u8]) {
+fn print_run(rt: &impl Print, line: &[u8]) -> io::Result<()> {
     if line.len() < 3 {
-        lines::print_text(b"bad line");
-        return;
+        return lines::print_text(rt, b"bad line");
     }
     let family = wrapping_sub_u8(line[1], b'0');
     let digits = &line[3..];
     let mut bytes = [0u8; ROOM];
     let n = from_hex(digits, &mut bytes);
     if n + n != digits.len() {
-        lines::print_text(b"bad line");
-        return;
+        return lines::print_text(rt, b"bad line");
     }
     match line[0] {
-        b'l' => print_listing(family, &bytes[0..n]),
-        b'r' => print_replay(family, &bytes[0..n]),
-        b'w' => walks::print_walks(family, &bytes[0..n]),
-        _ => panel::print_stream(family, &bytes[0..n]),
+        b'l' => print_listing(rt, family, &bytes[0..n]),
+        b'r' => print_replay(rt, family, &bytes[0..n]),
+        b'w' => walks::print_walks(rt, family, &bytes[0..n]),
+        _ => panel::print_stream(rt, family, &bytes[0..n]),
     }
 }
 
-fn print_hex(family: u8, digits: &[u8]) {
+fn print_hex(rt: &impl Print, family: u8, digits: &[u8]) -> io::Result<()> {
     let mut bytes = [0u8; ROOM];
     let n = from_hex(digits, &mut bytes);
     if n + n == digits.len() {
-        print_frame(family, &bytes[0..n]);
+        print_frame(rt, family, &bytes[0..n])
     } else {
-        lines::print_text(b"bad line");
+        lines::print_text(rt, b"bad line")
     }
 }
 
@@ -123,13 +121,13 @@ fn from_hex(digits: &[u8], bytes: &mut [u8]) -> usize
     n
 }
 
-fn print_frame(family: u8, bytes: &[u8]) {
+fn print_frame(rt: &impl Print, family: u8, bytes: &[u8]) -> io::Result<()> {
     let mut line = [0u8; 512];
     match frames::read_frame(family, bytes) {
         Reading::Good(frame) => {
             let end = replays::frame(&mut line, 0, frame);
-            lines::print(&mut line, end);
+            lines::print(rt, &mut line, end)
         }
-        Reading::Refused(n) => lines::print_refused(n),
+        Reading::Refused(n) => lines::print_refused(rt, n),
     }
 }

@@ -1,0 +1,29 @@
+-- What is left to show of `alpha::full::no_gap`, with the invariants beside. Assumes nothing.
+use Prim.Native.Nat.{ℕ, ◌+◌, ◌≤◌, ◌<◌}
+use mathlib.Core.Path.{◌≡◌, sym, ◌∙◌}
+use mathlib.Core.Bool.{Bool, ◌&&◌, and_assoc, and-true}
+use mathlib.Core.List.{List}
+use native.Mathlib.Omega.{arith}
+use lib.ListN.{length, drop, get_or}
+use Rattle.rules.specs.Bytes.{every}
+use Rattle.texts.proofs.Steps.{at, done}
+use Rattle.alpha.specs.Payloads.{outside_gap}
+use Rattle.alpha.proofs.full.no_gap.Goals as goal
+
+-- the byte at i, and those behind it
+next : (p : List ℕ) (good : Bool) (i : ℕ) → i < length p
+    → good && outside_gap (get_or p i 0) && every outside_gap (drop (i + 1) p) ≡ good && every outside_gap (drop i p)
+unfolding every
+next p good i h = rw (at p i h) (and_assoc good (outside_gap (get_or p i 0)) (every outside_gap (drop (i + 1) p)))
+
+-- nothing is left
+ended : (p : List ℕ) (good : Bool) (i : ℕ) → length p ≤ i → good && every outside_gap (drop i p) ≡ good
+unfolding every
+ended p good i h = rw (done p i h) (and-true good)
+
+pub loop-i-preserved : goal.loop-i-preserved
+loop-i-preserved c =
+    (omega arith, next c.args.p.now c.loop-i.good c.loop-i.i (omega arith) ∙ c.loop-i.invariant.1)
+
+pub returns : goal.returns
+returns c = sym (ended c.args.p.now _ c.loop-i.i (omega arith)) ∙ c.loop-i.invariant.1

@@ -1,0 +1,32 @@
+-- `listings::table::last_line` meets its contract: the texts are laid one behind the other, and where all frames are listed
+-- the counts are those of the rule's frames.
+-- Assumes nothing.
+use Rattle.std.proofs.Common.{ℕ, ◌-◌, List, ◌∷◌, ◌++◌, length, arith}
+use Rattle.rules.specs.Bytes.{ascii}
+use Rattle.lines.specs.Lines.{Types, spaced_texts}
+use Rattle.lines.proofs.Typed.{◌then◌}
+use Rattle.listings.specs.Listing.{last_texts}
+use Rattle.listings.specs.declared.table.Tally.{Tally}
+use Rattle.listings.proofs.Tallies.{Told, all_told}
+use Rattle.listings.proofs.table.last_line.Goals as goal
+
+-- what is told is what the last line tells
+told : (family : ℕ) (capture : List ℕ) (t : Tally) {line after : List ℕ} {place : ℕ} → Told family capture t
+    → Types (ascii "frames" ∷ spaced_texts t.listed ++ ascii " bytes" ∷ spaced_texts (length capture) ++ ascii " skipped" ∷ spaced_texts (length capture - t.inside)) line 0 after place
+    → Types (last_texts family capture) line 0 after place
+told family capture t is typed = rw (is.all, is.bytes) at typed
+
+pub overflow_sub-capture : goal.overflow_sub-capture
+overflow_sub-capture c =
+    let is = all_told _ _ c.args.tally c.requires in
+    omega (arith, is.bytes, is.within)
+
+pub returns : goal.returns
+returns c =
+    told _ _ _ (all_told _ _ c.args.tally c.requires)
+    (c.text-at.ensures
+    then c.spaced-at.ensures
+    then c.text-at-2.ensures
+    then c.spaced-at-2.ensures
+    then c.text-at-3.ensures
+    then c.spaced.ensures)

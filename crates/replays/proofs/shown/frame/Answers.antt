@@ -1,0 +1,16 @@
+-- `replays::shown::frame` meets its contract: the texts one behind the other.
+-- Assumes nothing.
+use Rattle.records.proofs.Places.{told_values}
+use Rattle.lines.proofs.Typed.{◌then◌}
+use Rattle.replays.specs.Texts.{frame_texts}
+use Rattle.replays.proofs.shown.frame.Goals as goal
+
+pub returns : goal.returns
+unfolding frame_texts
+returns c =
+    let told = c.fields_of-told.ensures in
+    rw told.kind at c.kind-place.ensures
+    then rw told.kind at c.asked-place.ensures
+    then rw (told_values told, c.forms_of-forms.ensures, told.kind) at c.shown-place.ensures
+    then c.text-place.ensures
+    then c.written.ensures

@@ -1,0 +1,13 @@
+-- `replays::values::field` meets its contract: the number of a model has its letter behind it.
+-- Assumes nothing.
+use Rattle.std.proofs.Common.{w64}
+use mir.ValLaws.{to_z-of_z}
+use Rattle.lines.proofs.Typed.{◌then◌}
+use Rattle.replays.specs.Texts.{field_texts}
+use Rattle.replays.proofs.values.field.Goals as goal
+
+pub returns-then-form-eq75 : goal.returns-then-form-eq75
+unfolding field_texts
+returns-then-form-eq75 c =
+    let read = to_z-of_z w64 c.args.v c.ranges.v in
+    rw c.if-form-eq75.true (rw read at c.signed-place.ensures then c.text.ensures)

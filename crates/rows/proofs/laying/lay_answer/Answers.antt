@@ -1,0 +1,7 @@
+-- `rows::laying::lay_answer` meets its contract: a refusal lays nothing.
+-- Assumes nothing.
+use Rattle.rows.proofs.Outcomes.{lays_none}
+use Rattle.rows.proofs.laying.lay_answer.Goals as goal
+
+pub returns-in-Refused : goal.returns-in-Refused
+returns-in-Refused c = rw c.in-Refused.is (lays_none _)
