@@ -90,7 +90,7 @@ def functions(t):
         parts = t.split(opened + 1, t.partner[opened], lambda w: w == ',')
         result = t.word(t.partner[opened] + 2) if t.word(t.partner[opened] + 1) == '->' else ''
         while t.word(j) in ('requires', 'ensures', 'ghost'):
-            promises, j = promises or t.word(j) == 'ensures', t.partner[j + 1] + 1
+            promises, j = promises or t.word(j) == 'ensures', t.partner[past(t, j + 1, '{')] + 1  # a clause may have a name
         if promises:
             parameters = {t.word(lo): t.part(lo + 2, hi) for lo, hi in parts if lo < hi}
             yield t.word(i + 1), parameters, result, j + 1, t.partner[j]
