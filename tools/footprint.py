@@ -88,10 +88,10 @@ def calls_itself(path):
     calls, function = {}, ""
     with open(path, encoding="utf-8") as file:
         for line in file:
-            if m := re.match(r'define .*?@("?[\w:]+"?)\(', line):
+            if m := re.match(r'define .*?@("[^"]+"|\w+)\(', line):
                 function = m[1]
                 calls[function] = set()
-            elif m := re.match(r'  .*call \S+ @("[\w:]+")\(', line):
+            elif m := re.match(r'  .*?call [^@]*@("[^"]+"|\w+)\(', line):
                 calls[function].add(m[1])
     # a function whose calls are all gone can't; take those away until none is left that can be
     while gone := {name for name, called in calls.items() if not called & calls.keys()}:
@@ -104,9 +104,9 @@ def pushed(path):
     found = {}
     with open(path, encoding="utf-8") as file:
         for line in file:
-            if m := re.match(r'define .*?@"?([\w:.]+)"?\((.*)\)', line):
-                beyond = max(0, m[2].count("%") - REGISTERS)
-                found[m[1]] = WORD + (beyond + 1) // 2 * 2 * WORD
+            if m := re.match(r'define .*?@(?:"([^"]+)"|([\w.]+))\((.*)\)', line):
+                beyond = max(0, m[3].count("%") - REGISTERS)
+                found[m[1] or m[2]] = WORD + (beyond + 1) // 2 * 2 * WORD
     return found
 
 
