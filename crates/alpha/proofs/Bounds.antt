@@ -1,17 +1,18 @@
 -- Bytes between two rows of bounds. Where the bounds are those of texts behind commas, so are the bytes, and each text
 -- is from the least byte to the most; so a payload between the bounds of full width has the texts that its places
 -- tell. By induction on the bounds. Assumes nothing.
-use Prim.Native.Nat.{ℕ, zero, suc, ◌+◌, ◌≤◌}
+use Prim.Native.Nat.{ℕ, zero, suc, ◌+◌, ◌≤◌, ◌<◌}
 use mathlib.Core.Path.{◌≡◌, refl, sym, ◌∙◌, ap, ap₂}
 use mathlib.Core.Bool.{Bool, true, ◌&&◌, and_assoc}
 use mathlib.Core.List.{List, [], ◌∷◌, ◌++◌, map, append_assoc}
+use native.Mathlib.Nat.{not-suc-le-zero, le_of_suc-le-suc}
 use native.Mathlib.Omega.{arith}
 use lib.ListN.{length, take, drop, get_or, replicate, take-append-drop}
 use lib.Seq.{drop-drop}
 use Rattle.rules.specs.Bytes.{part, between, every, total}
 use Rattle.rules.specs.Status.{cut}
 use Rattle.rules.specs.Sentences.{commas}
-use Rattle.frame_laws.proofs.Bytes.{both, both_pass, between_bounds}
+use Rattle.frame_laws.proofs.Bytes.{every_split, both, both_pass, between_bounds}
 use Rattle.texts.proofs.Steps.{at as from_place}
 use Rattle.texts.specs.Parts.{in_bounds}
 
@@ -91,3 +92,9 @@ formed x y name ws l m p h e =
       texts = r.texts;
       rest = r.rest;
     }
+
+-- what every entry of a list passes, the entry at each place passes
+pub each : {A : Type 0} (test : A → Bool) (none : A) (xs : List A) (k : ℕ) → every test xs ≡ true → k < length xs → test (get_or xs k none) ≡ true
+each test none [] k e h = absurd (not-suc-le-zero h)
+each test none (x ∷ xs) zero e h = (every_split test x xs e).0
+each test none (x ∷ xs) (suc k) e h = each test none xs k (every_split test x xs e).1 (le_of_suc-le-suc h)

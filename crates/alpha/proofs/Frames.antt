@@ -1,6 +1,9 @@
 -- The frame around a payload: it is a sentence where its length, its `$` and its `*` are right and the payload passes
 -- its tests. Assumes nothing.
 use Prim.Native.Nat.{ℕ, suc, ◌+◌, ◌-◌, ◌≤◌, ◌<◌}
+use Rattle.rules.specs.declared.Refusal.TheVariants.{NotGood}
+use Rattle.std.specs.Prelude.{Err, Ok}
+use Rattle.std.specs.Result.{is_ok}
 use mathlib.Core.Path.{◌≡◌, refl, sym, ◌∙◌, ap, ap₂}
 use mathlib.Core.Bool.{Bool, true, false, ◌&&◌, and-false}
 use mathlib.Core.List.{List, ◌∷◌, ◌++◌}
@@ -12,16 +15,20 @@ use borrow.Author.Tests.{lt-leb}
 use Rattle.rules.specs.Bytes.{part, between, same, every}
 use Rattle.rules.specs.Numbers.{is_digit}
 use Rattle.rules.specs.Sentences.{is_payload, is_payload_byte, is_named, is_sentence, payload_of, check_of, gives_sums, number_of, texts_of}
-use Rattle.rules.specs.Answers.{read_texts, read_family2, not_good}
-use Rattle.rules.specs.declared.Reading.TheVariants.{Refused}
+use Rattle.rules.specs.Answers.{Read, is_good, read_texts, read_family2}
 use Rattle.frame_laws.proofs.Bytes.{both, tests, answer, same_eq, eq_same, between_bounds, bounds_between}
 use Rattle.frame_laws.proofs.Sentences.{sentence_payload}
 use Rattle.texts.proofs.Steps.{at as from_place}
 use Rattle.alpha.specs.Payloads.{is_checked}
 
-pub no_sentence : (bs : List ℕ) → is_sentence bs ≡ false → Refused not_good ≡ read_family2 bs
+pub no_sentence : (bs : List ℕ) → is_sentence bs ≡ false → Err NotGood ≡ read_family2 bs
 unfolding read_family2
 no_sentence bs e = rw e
+
+-- an answer is good where it is no refusal
+pub ok_good : (r : Read) → is_ok r ≡ is_good r
+ok_good (Ok f) = refl
+ok_good (Err e) = refl
 
 -- the bytes are tested last
 reordered : (e n g : Bool) → e && n && g ≡ n && (e && g)
@@ -72,7 +79,7 @@ module _ (bs : List ℕ) where
     no_star h = ⊎_elim (λ e. absurd (h (marks e).1)) (λ e. e) (answer (is_sentence bs))
 
     -- the parts as they are cut
-    the_payload : part 1 (length bs - 5 - 1) bs ≡ payload_of bs
+    pub the_payload : part 1 (length bs - 5 - 1) bs ≡ payload_of bs
     the_payload = let e : length bs - 5 - 1 ≡ length bs - 6 = omega arith in rw e
 
     the_check : part (length bs - 4) (length bs - (length bs - 4)) bs ≡ check_of bs
@@ -88,7 +95,7 @@ module _ (bs : List ℕ) where
 
   -- a sentence has a payload, and that a number
   module _ (good : is_sentence bs ≡ true) where
-    pub long_enough : 11 ≤ length bs
+    long_enough : 11 ≤ length bs
     unfolding is_payload
     long_enough =
         let inside = sentence_payload bs good in
@@ -96,12 +103,12 @@ module _ (bs : List ℕ) where
         let bounds = between_bounds 5 128 (length (payload_of bs)) long in
         omega (arith, payload_length)
 
-    pub numbered : (5 ≤ length (part 1 (length bs - 5 - 1) bs)) × (every is_digit (part 3 2 (part 1 (length bs - 5 - 1) bs)) ≡ true)
+    pub numbered : (5 ≤ length (payload_of bs)) × (every is_digit (part 3 2 (payload_of bs)) ≡ true)
     unfolding is_payload
     numbered =
         let inside = sentence_payload bs good in
-        rw (the_payload long_enough) (omega (arith, payload_length, long_enough), search tests)
+        (omega (arith, payload_length, long_enough), search tests)
 
-    pub a_sentence : read_texts (number_of (part 1 (length bs - 5 - 1) bs)) (texts_of (part 1 (length bs - 5 - 1) bs)) ≡ read_family2 bs
+    pub a_sentence : read_texts (number_of (payload_of bs)) (texts_of (payload_of bs)) ≡ read_family2 bs
     unfolding read_family2
-    a_sentence = rw (the_payload long_enough, good)
+    a_sentence = rw good

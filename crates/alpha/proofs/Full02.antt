@@ -19,9 +19,8 @@ use Rattle.frame_laws.proofs.SentenceFields.{fields_fit}
 use Rattle.alpha.specs.Fields.{Text}
 use Rattle.texts.specs.Parts.{in_bounds}
 use Rattle.alpha.specs.Payloads.{is_good_payload}
-use Rattle.alpha.proofs.Rows.{each}
 use Rattle.alpha.proofs.Payloads.{by02}
-use Rattle.alpha.proofs.Bounds.{row_of, Formed, formed}
+use Rattle.alpha.proofs.Bounds.{each, row_of, Formed, formed}
 use Rattle.alpha.proofs.FullWidth.{full_fields, known, digit}
 
 -- three digits weighed as their bytes: 5583 is 255 and 111 times the byte of the digit 0

@@ -19,9 +19,8 @@ use Rattle.frame_laws.proofs.SentenceFields.{fields_fit, temperature_bound}
 use Rattle.alpha.specs.Fields.{Text}
 use Rattle.texts.specs.Parts.{in_bounds}
 use Rattle.alpha.specs.Payloads.{is_good_payload}
-use Rattle.alpha.proofs.Rows.{each}
 use Rattle.alpha.proofs.Payloads.{by03}
-use Rattle.alpha.proofs.Bounds.{row_of, Formed, formed}
+use Rattle.alpha.proofs.Bounds.{each, row_of, Formed, formed}
 use Rattle.alpha.proofs.FullWidth.{full_fields, known, digit}
 
 -- A temperature of six bytes.

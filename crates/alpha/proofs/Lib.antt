@@ -1,5 +1,5 @@
--- Laws of a field's text, of a row of fields, of a temperature, of the records that rows make, of a payload's tests, of
--- the frame around a payload, and of payloads at full width.
+-- Laws of a row of fields, of a temperature, of the records that rows make, of a payload's tests, of the frame around a
+-- payload, and of payloads at full width.
 pub mod Texts
 pub mod Rows
 pub mod Temperatures

@@ -1,75 +1,54 @@
--- A row of fields, read one after the other: one field more, a field that fails its test, and the whole row.
--- Stated once, over the tests and over what a text's value is. Assumes nothing.
-use Prim.Native.Nat.{ℕ, zero, suc, ◌+◌, ◌<◌}
-use mathlib.Core.Path.{◌≡◌, refl, sym, ◌∙◌, ap}
-use mathlib.Core.Bool.{Bool, true, false, ◌&&◌, false≢true}
-use mathlib.Core.List.{List, [], ◌∷◌, map}
-use native.Mathlib.Nat.{add-zero, not-suc-le-zero, le_of_suc-le-suc}
-use native.Mathlib.Numerals.{add-one}
-use native.Mathlib.Omega.{arith}
-use lib.ListN.{length, drop, get_or, set, replicate, length-map, length-replicate, get_or-map, get_or-replicate}
-use lib.Seq.{drop-cons, drop-length, drop-drop, get_or-drop, get_or-set_same, get_or-set_other}
-use borrow.Author.Count.{below_none, below_more}
-use Rattle.rules.specs.Bytes.{every}
-use Rattle.rules.specs.Sentences.{behind_commas, is_decimal}
-use Rattle.frame_laws.proofs.Bytes.{every_split}
-use Rattle.alpha.specs.Fields.{Text, begins, FieldAt, FieldsAt}
+-- A row of fields, read one after the other: one field more, one that is missing or has no value, and the whole row.
+-- Stated once, over what is read of a text. Assumes nothing.
+use Rattle.std.proofs.Common.{◌≡◌, ℕ, ◌+◌, ◌<◌, List, [], ◌∷◌, ◌++◌, Option, Some, None, length, get_or, take, drop, set, refl, sym, ap, ◌∙◌, append_assoc}
+use Rattle.std.proofs.Math.Seq.{drop-length, take-length}
+use Rattle.std.proofs.lemmas.List.{append-nil, drop-drop, take_more_set}
+use Rattle.rules.specs.Sentences.{behind_commas}
+use Rattle.texts.proofs.Steps.{at}
+use Rattle.alpha.specs.Fields.{Text, onto_row, row_in, Row}
 
--- k fields are read, and the next one's comma stands at place a
-pub record Sofar (tests : List (Text → Bool)) (value : Text → ℕ) (r : List ℕ) (k a : ℕ) (vs : List ℕ) : Type 0 where
-  pub told : begins tests (behind_commas r) ≡ begins (drop k tests) (drop k (behind_commas r))
-  pub read : (j : ℕ) → j < k → get_or vs j 0 ≡ value (get_or (behind_commas r) j [])
-  pub rest : behind_commas (drop a r) ≡ drop k (behind_commas r)
+-- values before a row
+abbrev pub onto_values : {A : Type 0} → List A → Option (List A) → Option (List A)
+onto_values vs None = None
+onto_values vs (Some us) = Some (vs ++ us)
 
-pub start : {tests : List (Text → Bool)} {value : Text → ℕ} {r vs : List ℕ} → Sofar tests value r 0 0 vs
-start = record { told = refl; read = below_none _; rest = refl }
+-- k fields are read: these are their values, and behind them stands the rest
+pub record Sofar {A : Type 0} (read : ℕ → Text → Option A) (ws : List ℕ) (ts : List Text) (k : ℕ) (vs : List A) (rest : List ℕ) : Type 0 where
+  pub values : row_in read ws ts ≡ onto_values (take k vs) (row_in read (drop k ws) (drop k ts))
+  pub behind : behind_commas rest ≡ drop k ts
 
--- the next field, by the test that stands next
-module _ {tests : List (Text → Bool)} {value : Text → ℕ} {r : List ℕ} {k a : ℕ} {vs : List ℕ} (so : Sofar tests value r k a vs)
-    {test : Text → Bool} (next : drop k tests ≡ test ∷ drop (k + 1) tests)
-    {good : Bool} {v end : ℕ} (f : FieldAt test value r a good v end) where
-  told_next : begins tests (behind_commas r) ≡ good && begins (drop (k + 1) tests) (drop (k + 1) (behind_commas r))
-  unfolding begins
-  told_next =
-      so.told
-      ∙ ap (λ (l : List (Text → Bool)). begins l (drop k (behind_commas r))) next
-      ∙ rw (← so.rest, ← f.told, so.rest, drop-drop)
+-- a value behind others is the last of them
+one_behind : {A : Type 0} (vs : List A) (v : A) (row : Option (List A)) → onto_values vs (onto_row (Some v) row) ≡ onto_values (vs ++ v ∷ []) row
+one_behind vs v None = refl
+one_behind vs v (Some us) = ap Some (sym (append_assoc vs (v ∷ []) us))
 
-  pub failing : good ≡ false → {us : List ℕ} {e : ℕ} → FieldsAt tests value r false us e
-  failing bad = record {
-    told = sym (told_next ∙ rw bad);
-    read = λ g. absurd (false≢true g);
-    rest = λ g. absurd (false≢true g);
-  }
+module _ {A : Type 0} {read : ℕ → Text → Option A} {ws : List ℕ} {ts : List Text} {k : ℕ} {vs : List A} {rest : List ℕ}
+    (so : Sofar read ws ts k vs rest) where
+  module _ (h : k < length ws) where
+    pub no_text : behind_commas rest ≡ [] → row_in read ws ts ≡ None
+    unfolding row_in
+    no_text e = so.values ∙ rw (at ws k h, ← so.behind, e)
 
-  pub one_more : good ≡ true → k < length vs → Sofar tests value r (k + 1) end (set vs k v)
-  one_more fine room = record {
-    told = told_next ∙ rw fine;
-    read =
-        below_more (λ (j : ℕ). get_or (set vs k v) j 0 ≡ value (get_or (behind_commas r) j [])) k
-        (λ j l. get_or-set_other vs k j v 0 (λ e. omega arith) ∙ so.read j l)
-        (get_or-set_same vs k v 0 room ∙ f.read fine ∙ rw (so.rest, get_or-drop, add-zero));
-    rest = f.rest fine ∙ rw (so.rest, drop-drop);
-  }
+    pub no_value : {t : Text} {us : List Text} → behind_commas rest ≡ t ∷ us → None ≡ read (get_or ws k 0) t → row_in read ws ts ≡ None
+    unfolding row_in
+    no_value e n = so.values ∙ rw (at ws k h, ← so.behind, e, ← n)
 
-pub whole_row : {tests : List (Text → Bool)} {value : Text → ℕ} {r : List ℕ} {a : ℕ} {vs : List ℕ}
-    → Sofar tests value r (length tests) a vs → FieldsAt tests value r true vs a
-unfolding begins
-whole_row so = record {
-  told = sym (so.told ∙ rw drop-length);
-  read = λ e. so.read;
-  rest = λ e. so.rest;
-}
+    pub one_more : {t : Text} (behind : List ℕ) {v : A} → behind_commas rest ≡ t ∷ behind_commas behind
+        → Some v ≡ read (get_or ws k 0) t → k < length vs → Sofar read ws ts (k + 1) (set vs k v) behind
+    unfolding row_in
+    one_more behind {v} e n room =
+        let next : behind_commas behind ≡ drop (k + 1) ts = ap (drop 1) (sym e ∙ so.behind) ∙ drop-drop 1 k ts in
+        record {
+          values =
+              so.values
+              ∙ rw (at ws k h, ← so.behind, e, ← n, next, take_more_set vs k v room) (one_behind (take k vs) v (row_in read (drop (k + 1) ws) (drop (k + 1) ts)));
+          behind = next;
+        }
 
--- what every entry of a list passes, the entry at each place passes
-pub each : {A : Type 0} (test : A → Bool) (none : A) (xs : List A) (k : ℕ) → every test xs ≡ true → k < length xs → test (get_or xs k none) ≡ true
-each test none [] k e h = absurd (not-suc-le-zero h)
-each test none (x ∷ xs) zero e h = (every_split test x xs e).0
-each test none (x ∷ xs) (suc k) e h = each test none xs k (every_split test x xs e).1 (le_of_suc-le-suc h)
-
--- the next of the tests for fields of these widths, and of one test for each of n fields
-pub next_width : (ws : List ℕ) (k : ℕ) → k < length ws → drop k (map is_decimal ws) ≡ is_decimal (get_or ws k 0) ∷ drop (k + 1) (map is_decimal ws)
-next_width ws k h = drop-cons (map is_decimal ws) k (is_decimal 0) (simp length-map h) ∙ rw (add-one, get_or-map is_decimal ws k 0)
-
-pub next_same : (test : Text → Bool) (n k : ℕ) → k < n → drop k (replicate n test) ≡ test ∷ drop (k + 1) (replicate n test)
-next_same test n k h = drop-cons (replicate n test) k test (simp length-replicate h) ∙ rw (add-one, get_or-replicate n k test test)
+  pub whole : k ≡ length ws → length vs ≡ length ws → Row read ws ts vs rest
+  unfolding row_in
+  whole e l =
+      record {
+        values = so.values ∙ rw (e, drop-length ws, ← l, take-length vs, append-nil);
+        behind = so.behind ∙ rw e;
+      }

@@ -1,5 +1,4 @@
 -- What the parts of the sentence reader give back.
 pub mod Fields
-pub mod Values
 pub mod Readings
 pub mod Payloads

@@ -1,5 +1,6 @@
 // Payloads at full width, each field with as many bytes as the writer gives it: one pass over bounds
-// tells that they are good. The temperature `-000.0` is at full width too, though the writer never
+// tells that they are good. Each sentence has bounds and tests of its own, and what the three share is
+// `within`, so one function of all three would be no plainer. The temperature `-000.0` is at full width too, though the writer never
 // writes it. Of any other payload nothing is said here.
 ghost use Rattle.std.specs.Prelude.{◌≡◌, true, length};
 ghost use Rattle.rules.specs.Bytes.{every};
@@ -25,7 +26,7 @@ fn is_full02(p: &[u8]) -> bool
     requires { length p.now ≡ 57 }
     ensures { result ≡ true → is_good_payload p.now ≡ true }
 {
-    let grid = texts::wide(p[35]) * 100 + texts::wide(p[36]) * 10 + texts::wide(p[37]);
+    let grid = u32::from(p[35]) * 100 + u32::from(p[36]) * 10 + u32::from(p[37]);
     within(
         b"APA02,00000,000,0000,0000,0000,000,000,000,0,0,00,0,00000",
         b"APA02,99999,999,9999,9999,9999,999,999,999,9,9,99,9,99999",
@@ -67,10 +68,8 @@ fn no_gap(p: &[u8]) -> bool
     ensures { result ≡ every outside_gap p.now }
 {
     let mut good = true;
-    let mut i = 0;
-    while i < p.len() {
-        good = good & ((p[i] <= b'9') | (b'A' <= p[i]));
-        i += 1;
+    for b in p {
+        good = good & ((*b <= b'9') | (b'A' <= *b));
     }
     good
 }

@@ -5,20 +5,19 @@ ghost use Rattle.alpha.specs.Readings.{as02, as03, as05};
 
 use crate::fields;
 use records::{WIDTHS02, WIDTHS03};
-use rules::{Frame, NOT_GOOD, Reading, Sentence02, Sentence03, Sentence05};
+use rules::{Frame, Reading, Refusal, Sentence02, Sentence03, Sentence05};
 
 // Thirteen decimal fields, and nothing behind them.
 pub(crate) fn read02(r: &[u8]) -> Reading
     ensures { result ≡ as02 (behind_commas r.now) }
 {
-    let row = fields::decimals(r, &WIDTHS02);
-    if !row.good {
-        return Reading::Refused(NOT_GOOD);
+    let mut n = [0; 13];
+    let Some(rest) = fields::row(r, &WIDTHS02, &mut n, fields::decimal_in) else {
+        return Err(Refusal::NotGood);
+    };
+    if !rest.is_empty() {
+        return Err(Refusal::NotGood);
     }
-    if row.end < r.len() {
-        return Reading::Refused(NOT_GOOD);
-    }
-    let n = row.numbers;
     let record = Sentence02 {
         pfwd: n[0],
         swr: n[1],
@@ -35,27 +34,25 @@ pub(crate) fn read02(r: &[u8]) -> Reading
         pep: n[12],
     };
     if !records::in_range02(record) {
-        return Reading::Refused(NOT_GOOD);
+        return Err(Refusal::NotGood);
     }
-    Reading::Good(Frame::Apa02(record))
+    Ok(Frame::Apa02(record))
 }
 
 // Eight decimal fields, a temperature, and nothing behind it.
 pub(crate) fn read03(r: &[u8]) -> Reading
     ensures { result ≡ as03 (behind_commas r.now) }
 {
-    let row = fields::decimals(r, &WIDTHS03);
-    if !row.good {
-        return Reading::Refused(NOT_GOOD);
+    let mut n = [0; 8];
+    let Some(rest) = fields::row(r, &WIDTHS03, &mut n, fields::decimal_in) else {
+        return Err(Refusal::NotGood);
+    };
+    let Some((last, temp)) = fields::degrees(rest) else {
+        return Err(Refusal::NotGood);
+    };
+    if !last.is_empty() {
+        return Err(Refusal::NotGood);
     }
-    let last = fields::degrees_at(r, row.end);
-    if !last.good {
-        return Reading::Refused(NOT_GOOD);
-    }
-    if last.end < r.len() {
-        return Reading::Refused(NOT_GOOD);
-    }
-    let n = row.numbers;
     let record = Sentence03 {
         v5: n[0],
         v12: n[1],
@@ -65,12 +62,12 @@ pub(crate) fn read03(r: &[u8]) -> Reading
         acline: n[5],
         mbstatus: n[6],
         mbtap: n[7],
-        temp: last.tenths,
+        temp,
     };
     if !records::in_range03(record) {
-        return Reading::Refused(NOT_GOOD);
+        return Err(Refusal::NotGood);
     }
-    Reading::Good(Frame::Apa03(record))
+    Ok(Frame::Apa03(record))
 }
 
 // Seven fields of two hexadecimal digits, and nothing behind them. The first four hold a number in
@@ -78,15 +75,14 @@ pub(crate) fn read03(r: &[u8]) -> Reading
 pub(crate) fn read05(r: &[u8]) -> Reading
     ensures { result ≡ as05 (behind_commas r.now) }
 {
-    let row = fields::hexes(r);
-    if !row.good {
-        return Reading::Refused(NOT_GOOD);
+    let mut b = [0; 7];
+    let Some(rest) = fields::row(r, &[2; 7], &mut b, |text, _width| fields::hex_in(text)) else {
+        return Err(Refusal::NotGood);
+    };
+    if !rest.is_empty() {
+        return Err(Refusal::NotGood);
     }
-    if row.end < r.len() {
-        return Reading::Refused(NOT_GOOD);
-    }
-    let b = row.bytes;
-    Reading::Good(Frame::Apa05(Sentence05 {
+    Ok(Frame::Apa05(Sentence05 {
         band: b[0] >> 4,
         segment: b[0] & 15,
         memory: b[1] >> 4,

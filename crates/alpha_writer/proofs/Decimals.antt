@@ -1,16 +1,15 @@
 -- Decimal fields laid one by one: what is left to lay, from the next place on, gives what all of them give from the first.
 -- Assumes nothing.
-use Prim.Native.Nat.{ℕ, suc, ◌+◌, ◌^◌, ◌≤◌, ◌<◌}
+use Prim.Native.Nat.{ℕ, suc, ◌+◌, ◌^◌, ◌≤◌}
 use Prim.Native.Char.{code}
 use mathlib.Core.Path.{◌≡◌, sym, ap, ◌∙◌}
 use mathlib.Core.Bool.{true}
-use mathlib.Core.List.{List, ◌∷◌}
-use native.Mathlib.Numerals.{add-one}
+use mathlib.Core.List.{List, [], ◌∷◌}
+use mathlib.Core.Logic.{◌⊎◌, ⊎_elim}
 use native.Mathlib.Omega.{arith}
 use borrow.Author.Tests.{ltb-true}
 use lib.Dec.{ltb}
-use lib.ListN.{length, drop, get_or, length-append, drop_of_length-le}
-use lib.Seq.{drop-cons}
+use lib.ListN.{length, length-append}
 use Rattle.rules.specs.Numbers.{with_zeros}
 use Rattle.rules.specs.Sentences.{fit, decimals, commas}
 use Rattle.frame_laws.proofs.Bytes.{both}
@@ -27,7 +26,7 @@ pub record Left (place : ℕ) (ws ns out whole : List ℕ) : Type 0 where
   pub rest : laid place (decimal_fields ws ns) out ≡ whole
 
 -- one field laid
-next : {place w n : ℕ} {ws ns out after whole : List ℕ} → Left place (w ∷ ws) (n ∷ ns) out whole → after ≡ laid place (field_in (code "0") w n) out → Left (place + w + 1) ws ns after whole
+pub next : {place w n : ℕ} {ws ns out after whole : List ℕ} → Left place (w ∷ ws) (n ∷ ns) out whole → after ≡ laid place (field_in (code "0") w n) out → Left (place + (w + 1)) ws ns after whole
 unfolding fit decimals commas
 next {place} {w} {n} {ws} {ns} {out} {after} {whole} l e =
     let h = both (ltb n (10 ^ w)) (fit ws ns) l.fits in
@@ -36,18 +35,15 @@ next {place} {w} {n} {ws} {ns} {out} {after} {whole} l e =
     let room : place + length text + length (decimal_fields ws ns) ≤ length out = omega (arith, length-append (with_zeros w n) (decimal_fields ws ns), l.room) in
     let field : after ≡ laid place text out = (zeros_row w n (ltb-true n (10 ^ w) h.0) e).laying (omega arith) in
     let kept : length after ≡ length out = ap length field ∙ length_laid place text out in
-    let here : place + w + 1 ≡ place + length text = omega arith in record {
+    let here : place + (w + 1) ≡ place + length text = omega arith in record {
       fits = h.1;
       room = omega arith;
       rest = rw (here, field) (laid_behind place text (decimal_fields ws ns) out room ∙ l.rest);
     }
 
--- and so by an index into widths and numbers
-pub step : {place : ℕ} (i : ℕ) (ws ns : List ℕ) {out after whole : List ℕ} → i < length ws → i < length ns → Left place (drop i ws) (drop i ns) out whole
-    → after ≡ laid place (field_in (code "0") (get_or ws i 0) (get_or ns i 0)) out → Left (place + get_or ws i 0 + 1) (drop (i + 1) ws) (drop (i + 1) ns) after whole
-step i ws ns h k l e = rw (add-one i) (next (rw (drop-cons ws i 0 h, drop-cons ns i 0 k) at l) e)
-
--- nothing is left at the end
-pub all_laid : {place : ℕ} (i : ℕ) (ws ns : List ℕ) {out whole : List ℕ} → length ws ≤ i → Left place (drop i ws) (drop i ns) out whole → out ≡ whole
+-- nothing is left where either has ended
+pub all_laid : (place : ℕ) (ws ns : List ℕ) {out whole : List ℕ} → (length ws ≡ 0) ⊎ (length ns ≡ 0) → Left place ws ns out whole → out ≡ whole
 unfolding decimals commas
-all_laid {place} i ws ns {out} h l = sym (laid_none place out) ∙ (rw (drop_of_length-le ws h) at l.rest)
+all_laid place [] ns {out} e l = sym (laid_none place out) ∙ l.rest
+all_laid place (w ∷ ws) [] {out} e l = sym (laid_none place out) ∙ l.rest
+all_laid place (w ∷ ws) (n ∷ ns) e l = ⊎_elim (λ (h : length (w ∷ ws) ≡ 0). absurd (omega arith)) (λ (h : length (n ∷ ns) ≡ 0). absurd (omega arith)) e

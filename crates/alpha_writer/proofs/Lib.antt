@@ -1,5 +1,5 @@
 -- What the proofs of the writers share: temperatures, rows of decimal fields, the frame, and ranges.
 pub mod Signs
 pub mod Decimals
-pub mod Sentence
+pub mod Sealed
 pub mod Ranges

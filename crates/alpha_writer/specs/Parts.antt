@@ -4,7 +4,10 @@ use Prim.Native.Char.{code}
 use Rattle.rules.specs.Numbers.{hex_digits}
 use Rattle.rules.specs.Sentences.{sum1, sum2, temperature_text, fit, decimals, commas}
 
--- what stands behind the payload
+-- the payload behind the dollar sign, and what stands behind it
+abbrev pub front : List ℕ → List ℕ
+front p = code "$" ∷ p
+
 abbrev pub seal : List ℕ → List ℕ
 seal p = code "*" ∷ hex_digits (sum2 p) ++ hex_digits (sum1 p)
 
@@ -21,6 +24,5 @@ decimal_fields widths numbers = commas (decimals widths numbers)
 
 -- A number for each width, which has room in it; and room for all fields in the output from a place on.
 pub record FieldsFit (widths numbers out : List ℕ) (at : ℕ) : Type 0 where
-  pub same : length widths ≡ length numbers
   pub fits : fit widths numbers ≡ true
   pub room : at + length (decimal_fields widths numbers) ≤ length out

@@ -5,7 +5,7 @@
 
 ghost use Rattle.std.specs.Prelude.{◌≡◌, true};
 ghost use Rattle.stream_rules.specs.Lister.{order};
-ghost use Rattle.rules.specs.Answers.{no_room};
+ghost use Rattle.rules.specs.declared.Refusal.TheVariants.{NoRoom};
 ghost use Rattle.rules.specs.Sentences.{enable_bytes};
 ghost use Rattle.row_writer.specs.Given.{WritesGiven, WritesNumbers};
 ghost use Rattle.row_stream.specs.FedRows.{FeedsRow};
@@ -97,7 +97,7 @@ pub extern "C" fn amp_write(
 // Writes the bytes that enable the Alpha, and tells their length.
 #[unsafe(no_mangle)]
 pub extern "C" fn amp_write_enable(out: &mut [u8], length: &mut usize) -> u32
-    ensures { WritesNumbers true no_room enable_bytes out.old length.old result out.new length.new }
+    ensures { WritesNumbers true NoRoom enable_bytes out.old length.old result out.new length.new }
 {
     amp::amp_write_enable(out, length)
 }

@@ -2,20 +2,21 @@
 -- the front of the lent numbers. So two calls that leave the same numbers gave the same answer.
 -- Assumes nothing.
 use Prim.Native.Nat.{ℕ, ◌<◌}
+use Rattle.rules.specs.declared.Refusal.{Refusal}
+use Rattle.stream_rules.specs.declared.Progress.{Progress}
+use Rattle.std.specs.Prelude.{Ok, Result}
 use mathlib.Core.Path.{◌≡◌, refl, sym, ap, subst, ◌∙◌}
 use mathlib.Core.Bool.{true}
 use mathlib.Core.List.{List, ◌++◌}
 use native.Mathlib.Omega.{arith}
 use lib.IntN.{ℤ}
 use lib.ListN.{length, take, drop}
-use Rattle.rules.specs.Answers.{read_one, no_family}
+use Rattle.rules.specs.Answers.{read_one}
 use Rattle.rules.specs.declared.Frame.{Frame}
-use Rattle.rules.specs.declared.Reading.TheVariants.{Good}
 use Rattle.stream_rules.specs.Heads.{longest, head, at_close, good}
 use Rattle.stream_rules.specs.Rule.{Look, ready, waiting, look, Call, gives, wants, call}
-use Rattle.stream_rules.specs.Streams.{held_of, is_closed, holds_too_much, open_call, closed_call, refuse, fed}
+use Rattle.stream_rules.specs.Streams.{held_of, open_call, closed_call, refuse, fed}
 use Rattle.stream_rules.specs.declared.Reader.{Reader}
-use Rattle.stream_rules.specs.declared.Answer.{Answer}
 use Rattle.stream_rules.specs.declared.Fed.{Fed}
 use Rattle.stream_laws.specs.Sessions.{is_no_refusal, taken_of}
 use Rattle.stream_laws.proofs.Families.{facts}
@@ -27,11 +28,13 @@ use Rattle.rows.specs.Rows.{row_fed}
 use Rattle.boundary.specs.RowSessions.{most_lent, RowCall}
 use Rattle.boundary.proofs.RowSessions.{few, had}
 use Rattle.boundary.proofs.Apart.{Lendable, WasRead, one_answer}
+use Rattle.rules.specs.declared.Refusal.TheVariants.{HoldsTooMuch, IsClosed, NoFamily}
+use Rattle.rules.specs.Refusals.{number_for}
 
 -- A frame that stands at the head of some bytes was read from them, and is short.
 record Read (family n : ℕ) (f : Frame) : Type 0 where
   bytes : List ℕ
-  reads : read_one family bytes ≡ Good f
+  reads : read_one family bytes ≡ Ok f
   short : n < most_lent
 
 read_there : (family : ℕ) (bs : List ℕ) (n : ℕ) (f : Frame) → head family bs ≡ good n f → Read family n f
@@ -42,7 +45,7 @@ read_there family bs n f e = record {
 }
 
 -- what is said of an answer
-abbrev pub Fine : Answer → Type 0
+abbrev pub Fine : (Result Progress Refusal) → Type 0
 Fine a = (is_no_refusal a ≡ true) × WasRead a × Lendable a
 
 module _ (r : Reader) (offered : List ℕ) where
@@ -64,13 +67,13 @@ module _ {r : Reader} {offered : List ℕ} {number : ℕ} {after : Reader} {row 
   pub fine : Fine (fed r offered).answer
   fine = go (kind r offered)
     where
-      refusal : (n : ℕ) → fed r offered ≡ refuse r n → number ≡ n
+      refusal : (n : Refusal) → fed r offered ≡ refuse r n → number ≡ number_for n
       refusal n e = rw e at c.feeds.lays.answers
 
       go : CallKind r offered → Fine (fed r offered).answer
-      go (CallKind.no-family p) = absurd (omega (arith, accepted, refusal no_family (refused_1 r offered p)))
-      go (CallKind.too_much p q) = absurd (omega (arith, accepted, refusal holds_too_much (refused_6 r offered p q)))
-      go (CallKind.offers_closed p q s t) = absurd (omega (arith, accepted, refusal is_closed (refused_5 r offered p q s t)))
+      go (CallKind.no-family p) = absurd (omega (arith, accepted, refusal NoFamily (refused_1 r offered p)))
+      go (CallKind.too_much p q) = absurd (omega (arith, accepted, refusal HoldsTooMuch (refused_6 r offered p q)))
+      go (CallKind.offers_closed p q s t) = absurd (omega (arith, accepted, refusal IsClosed (refused_5 r offered p q s t)))
       go (CallKind.feeds p q s) =
           let is = open-call r offered p q s in
           subst (λ (f : Fed). Fine f.answer) (sym is)

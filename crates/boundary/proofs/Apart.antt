@@ -2,6 +2,10 @@
 -- call left, kind and code tell how long the row is, so one row in them is that of one answer.
 -- Assumes nothing.
 use Prim.Native.Nat.{ℕ, ◌+◌, ◌<◌}
+use Rattle.rules.specs.declared.Refusal.{Refusal}
+use Rattle.stream_rules.specs.declared.Progress.{Progress}
+use Rattle.stream_rules.specs.declared.Progress.TheVariants.{Done, More, Ready}
+use Rattle.std.specs.Prelude.{Err, Ok, Result}
 use mathlib.Core.Path.{◌≡◌, refl, sym, ap, ◌∙◌}
 use mathlib.Core.Bool.{false, cond}
 use mathlib.Core.List.{List}
@@ -19,9 +23,6 @@ use Rattle.rules.specs.declared.Kind.{Kind}
 use Rattle.rules.specs.declared.Kind.TheVariants.{OfAck, OfStatus, OfCommand, OfSentence, OfQuestion, OfResponse, OfLetters}
 use Rattle.rules.specs.declared.Frame.{Frame}
 use Rattle.rules.specs.declared.Frame.TheVariants.{Ack, Status, Command, Apa02, Apa03, Apa05, Other, Message}
-use Rattle.rules.specs.declared.Reading.TheVariants.{Good}
-use Rattle.stream_rules.specs.declared.Answer.{Answer}
-use Rattle.stream_rules.specs.declared.Answer.TheVariants.{Ready, More, Done, Refused}
 use Rattle.stream_rules.specs.declared.Ready as ReadyType
 use Rattle.demands.proofs.Values.{at, status_of, of02, of03, of05, clock_of, letters_of}
 use Rattle.rows.specs.Rows.{more_row, done_row, heading_length, kind_row, code_of, row_fed}
@@ -90,20 +91,20 @@ ready_from numbers = record {
   frame = frame_from (at numbers 0) (at numbers 1) (drop heading_length numbers);
 }
 
-abbrev answer_from : List ℤ → Answer
+abbrev answer_from : List ℤ → (Result Progress Refusal)
 answer_from numbers =
-    cond (eqb (at numbers 0) more_row) (More (at numbers 2))
-    (cond (eqb (at numbers 0) done_row) (Done (at numbers 2))
-    (Ready (ready_from numbers)))
+    cond (eqb (at numbers 0) more_row) (Ok (More (at numbers 2)))
+    (cond (eqb (at numbers 0) done_row) (Ok (Done (at numbers 2)))
+    (Ok (Ready (ready_from numbers))))
 
 -- An answer that has a row, with counts that C can have: nothing that it lends is longer.
-abbrev pub Lendable : Answer → Type 0
-Lendable (Ready x) = (x.taken < most_lent) × (x.length < most_lent)
-Lendable (More n) = n < most_lent
-Lendable (Done n) = n < most_lent
-Lendable (Refused n) = ⊥
+abbrev pub Lendable : (Result Progress Refusal) → Type 0
+Lendable (Ok (Ready x)) = (x.taken < most_lent) × (x.length < most_lent)
+Lendable (Ok (More n)) = n < most_lent
+Lendable (Ok (Done n)) = n < most_lent
+Lendable (Err n) = ⊥
 
-ready_back : (x : ReadyType.Ready) → Lendable (Ready x) → ready_from (row_fed (Ready x)) ≡ x
+ready_back : (x : ReadyType.Ready) → Lendable (Ok (Ready x)) → ready_from (row_fed (Ok (Ready x))) ≡ x
 ready_back x s i = record {
   taken = mod-eq_of_lt s.0 i;
   start = x.start;
@@ -112,36 +113,36 @@ ready_back x s i = record {
   frame = frame_back x.frame i;
 }
 
-answer_back : (a : Answer) → Lendable a → answer_from (row_fed a) ≡ a
-answer_back (Ready x) s = rw ((of_frame (kind_of x.frame)).0, (of_frame (kind_of x.frame)).1) (ap Ready (ready_back x s))
-answer_back (More n) s = ap More (mod-eq_of_lt s)
-answer_back (Done n) s = ap Done (mod-eq_of_lt s)
-answer_back (Refused n) s = absurd s
+answer_back : (a : (Result Progress Refusal)) → Lendable a → answer_from (row_fed a) ≡ a
+answer_back (Ok (Ready x)) s = rw ((of_frame (kind_of x.frame)).0, (of_frame (kind_of x.frame)).1) (ap (λ (r : ReadyType.Ready). Ok (Ready r)) (ready_back x s))
+answer_back (Ok (More n)) s = ap (λ (m : ℕ). Ok (More m)) (mod-eq_of_lt s)
+answer_back (Ok (Done n)) s = ap (λ (m : ℕ). Ok (Done m)) (mod-eq_of_lt s)
+answer_back (Err n) s = absurd s
 
 -- Two answers with one row are equal.
-pub rows_apart : (a b : Answer) → Lendable a → Lendable b → row_fed a ≡ row_fed b → a ≡ b
+pub rows_apart : (a b : (Result Progress Refusal)) → Lendable a → Lendable b → row_fed a ≡ row_fed b → a ≡ b
 rows_apart a b s t e = sym (answer_back a s) ∙ ap answer_from e ∙ answer_back b t
 
 -- An answer as a call gives it: its frame was read from some bytes.
-abbrev pub WasRead : Answer → Type 0
-WasRead (Ready x) = (family : ℕ) × (bytes : List ℕ) × (read_one family bytes ≡ Good x.frame)
-WasRead (More n) = Unit {0}
-WasRead (Done n) = Unit {0}
-WasRead (Refused n) = ⊥
+abbrev pub WasRead : (Result Progress Refusal) → Type 0
+WasRead (Ok (Ready x)) = (family : ℕ) × (bytes : List ℕ) × (read_one family bytes ≡ Ok x.frame)
+WasRead (Ok (More n)) = Unit {0}
+WasRead (Ok (Done n)) = Unit {0}
+WasRead (Err n) = ⊥
 
 -- The length of its row is told by the row's kind and code.
-ready_length : (x : ReadyType.Ready) → WasRead (Ready x) → length (row_fed (Ready x)) ≡ heading_length + count_of x.frame
+ready_length : (x : ReadyType.Ready) → WasRead (Ok (Ready x)) → length (row_fed (Ok (Ready x))) ≡ heading_length + count_of x.frame
 ready_length x (family, bytes, e) = omega (arith, counted family bytes x.frame e)
 
-told_length : (a : Answer) → WasRead a → length (row_fed a) ≡ heading_length + value_count (at (row_fed a) 0) (at (row_fed a) 1)
+told_length : (a : (Result Progress Refusal)) → WasRead a → length (row_fed a) ≡ heading_length + value_count (at (row_fed a) 0) (at (row_fed a) 1)
 unfolding value_count
-told_length (Ready x) g = ready_length x g
-told_length (More n) g = refl
-told_length (Done n) g = refl
-told_length (Refused n) g = absurd g
+told_length (Ok (Ready x)) g = ready_length x g
+told_length (Ok (More n)) g = refl
+told_length (Ok (Done n)) g = refl
+told_length (Err n) g = absurd g
 
 -- Where the row of an answer stands at the front of some numbers, its kind and its code are the first of them.
-module _ (row : List ℤ) (a : Answer) (g : WasRead a) (shown : take (length (row_fed a)) row ≡ row_fed a) where
+module _ (row : List ℤ) (a : (Result Progress Refusal)) (g : WasRead a) (shown : take (length (row_fed a)) row ≡ row_fed a) where
   first : (i : ℕ) → i < 6 → at row i ≡ at (row_fed a) i
   first i small = ap nat_abs (sym (get_or-take (length (row_fed a)) row i (pos 0) (omega (arith, told_length a g))) ∙ ap (λ (r : List ℤ). get_or r i (pos 0)) shown)
 
@@ -149,7 +150,7 @@ module _ (row : List ℤ) (a : Answer) (g : WasRead a) (shown : take (length (ro
   told_here = told_length a g ∙ sym (ap (λ (k : ℕ). heading_length + value_count k (at row 1)) (first 0 (omega arith)) ∙ ap (λ (c : ℕ). heading_length + value_count (at (row_fed a) 0) c) (first 1 (omega arith)))
 
 -- So what a call leaves in the lent numbers is the row of one answer only.
-pub one_answer : (row : List ℤ) (a b : Answer) → WasRead a → WasRead b → Lendable a → Lendable b
+pub one_answer : (row : List ℤ) (a b : (Result Progress Refusal)) → WasRead a → WasRead b → Lendable a → Lendable b
     → take (length (row_fed a)) row ≡ row_fed a → take (length (row_fed b)) row ≡ row_fed b → a ≡ b
 one_answer row a b g h s t p q =
     let long : length (row_fed a) ≡ length (row_fed b) = told_here row a g p ∙ sym (told_here row b h q) in

@@ -1,5 +1,6 @@
 -- How many values a frame has that was read: as many as its kind and its code say. Assumes nothing.
 use Prim.Native.Nat.{ℕ}
+use Rattle.std.specs.Prelude.{Ok}
 use mathlib.Core.Path.{◌≡◌, refl}
 use mathlib.Core.List.{List}
 use borrow.Author.Tests.{ne_eqb}
@@ -12,7 +13,6 @@ use Rattle.rules.specs.declared.Message as MessageType
 use Rattle.rules.specs.declared.Message.TheVariants.{Question, Number, Version, Clock, Tune, OtherLetters}
 use Rattle.rules.specs.declared.Frame.{Frame}
 use Rattle.rules.specs.declared.Frame.TheVariants.{Ack, Status, Command, Apa02, Apa03, Apa05, Other, Message}
-use Rattle.rules.specs.declared.Reading.TheVariants.{Good}
 use Rattle.frame_laws.proofs.Exact.{IsFrame, IsBehind}
 use Rattle.demands.proofs.Demand2.{exact}
 use Rattle.rows.specs.Rows.{kind_row, code_of}
@@ -42,5 +42,5 @@ frame_count bs (Apa05 r) i = refl
 frame_count bs (Other n) i = rw (ne_eqb n 2 i.1, ne_eqb n 3 i.2, ne_eqb n 5 i.3)
 frame_count bs (Message m) i = message_count m _ i.2
 
-pub counted : (family : ℕ) (bs : List ℕ) (f : Frame) → read_one family bs ≡ Good f → length (values f) ≡ count_of f
+pub counted : (family : ℕ) (bs : List ℕ) (f : Frame) → read_one family bs ≡ Ok f → length (values f) ≡ count_of f
 counted family bs f e = frame_count bs f ((exact family bs f).0 e).1

@@ -2,6 +2,10 @@
 -- no function gives a number but 0, and each row is that of its call's answer. And such sessions there are.
 -- Assumes nothing.
 use Prim.Native.Nat.{ℕ, ◌<◌}
+use Rattle.rules.specs.declared.Refusal.{Refusal}
+use Rattle.stream_rules.specs.declared.Progress.{Progress}
+use Rattle.stream_rules.specs.declared.Progress.TheVariants.{Done, More, Ready}
+use Rattle.std.specs.Prelude.{Err, Result}
 use mathlib.Core.Path.{◌≡◌, refl, sym, ap, subst, ◌∙◌}
 use mathlib.Core.Bool.{true, cond, false≢true}
 use mathlib.Core.List.{List, [], ◌∷◌}
@@ -17,10 +21,7 @@ use Rattle.frame_laws.proofs.Bytes.{every_cons}
 use Rattle.rules.specs.Bytes.{every}
 use Rattle.stream_rules.specs.Streams.{fed, shut, fresh, said_to_feed, said_to_turn}
 use Rattle.stream_rules.specs.declared.Reader.{Reader}
-use Rattle.stream_rules.specs.declared.Answer.{Answer}
-use Rattle.stream_rules.specs.declared.Answer.TheVariants.{Ready, More, Done, Refused}
 use Rattle.stream_rules.specs.declared.Fed.{Fed}
-use Rattle.stream_rules.specs.declared.Outcome.{Outcome}
 use Rattle.stream_rules.specs.declared.Turned.{Turned}
 use Rattle.stream_laws.specs.Sessions.{Draining, Session, Following, stream_of, taken_of, is_no_refusal}
 use Rattle.stream_laws.proofs.Families.{facts}
@@ -33,6 +34,7 @@ use Rattle.rows.proofs.Lengths.{row_fits, room}
 use Rattle.amp.specs.Boundary.{Freshens, Closes}
 use Rattle.boundary.proofs.Apart.{of_frame}
 use Rattle.boundary.specs.RowSessions.{row_kind, row_taken, most_lent, RowCall, RowDraining, RowSession, RowsOf, RowDemand3}
+use Rattle.std.specs.Prelude.{Ok}
 
 -- what a row that stands at the front shows
 pub at_front : (r numbers : List ℤ) → take (length r) (front r numbers) ≡ r
@@ -40,7 +42,7 @@ unfolding front
 at_front r numbers = take-append_seam r (drop (length r) numbers)
 
 -- What a program has of a call that is not refused.
-pub record Had (r : Reader) (offered : List ℕ) (a : Answer) (number : ℕ) (after : Reader) (row : List ℤ) : Type 0 where
+pub record Had (r : Reader) (offered : List ℕ) (a : (Result Progress Refusal)) (number : ℕ) (after : Reader) (row : List ℤ) : Type 0 where
   pub zero : number ≡ 0
   pub left : after ≡ (fed r offered).reader
   pub shown : take (length (row_fed a)) row ≡ row_fed a
@@ -49,7 +51,7 @@ pub record Had (r : Reader) (offered : List ℕ) (a : Answer) (number : ℕ) (af
 
 module _ {r : Reader} {offered : List ℕ} {number : ℕ} {after : Reader} {row : List ℤ} (c : RowCall r offered number after row) where
   -- from a row that has room and says how many bytes were taken
-  had_row : (a : Answer) → (fed r offered).answer ≡ a → number ≡ 0 → row_taken (front (row_fed a) c.numbers) ≡ taken_of a
+  had_row : (a : (Result Progress Refusal)) → (fed r offered).answer ≡ a → number ≡ 0 → row_taken (front (row_fed a) c.numbers) ≡ taken_of a
       → row_kind (front (row_fed a) c.numbers) ≡ row_kind (row_fed a) → Had r offered a number after row
   had_row a e zero told first =
       let content : row ≡ front (row_fed a) c.numbers =
@@ -65,21 +67,21 @@ module _ {r : Reader} {offered : List ℕ} {number : ℕ} {after : Reader} {row 
   pub few : taken_of (fed r offered).answer < most_lent
   few = omega (arith, c.lent, taken_within r offered (facts r.family) (fed r offered) (feeds refl))
 
-  pub had : (a : Answer) → (fed r offered).answer ≡ a → is_no_refusal a ≡ true → Had r offered a number after row
+  pub had : (a : (Result Progress Refusal)) → (fed r offered).answer ≡ a → is_no_refusal a ≡ true → Had r offered a number after row
   unfolding front
-  had (Ready x) e fine =
+  had (Ok (Ready x)) e fine =
       let short = row_fits x.taken x.start x.skipped x.length x.frame in
-      had_row (Ready x) e (c.feeds.lays.answers ∙ rw e (room (row_fed (Ready x)) c.numbers short c.room)) (mod-eq_of_lt (rw e at few)) refl
-  had (More n) e fine =
-      had_row (More n) e (c.feeds.lays.answers ∙ rw e (room (row_fed (More n)) c.numbers (lit≤ tt) c.room)) (mod-eq_of_lt (rw e at few)) refl
-  had (Done n) e fine =
-      had_row (Done n) e (c.feeds.lays.answers ∙ rw e (room (row_fed (Done n)) c.numbers (lit≤ tt) c.room)) (mod-eq_of_lt (rw e at few)) refl
-  had (Refused n) e fine = absurd (false≢true fine)
+      had_row (Ok (Ready x)) e (c.feeds.lays.answers ∙ rw e (room (row_fed (Ok (Ready x))) c.numbers short c.room)) (mod-eq_of_lt (rw e at few)) refl
+  had (Ok (More n)) e fine =
+      had_row (Ok (More n)) e (c.feeds.lays.answers ∙ rw e (room (row_fed (Ok (More n))) c.numbers (lit≤ tt) c.room)) (mod-eq_of_lt (rw e at few)) refl
+  had (Ok (Done n)) e fine =
+      had_row (Ok (Done n)) e (c.feeds.lays.answers ∙ rw e (room (row_fed (Ok (Done n))) c.numbers (lit≤ tt) c.room)) (mod-eq_of_lt (rw e at few)) refl
+  had (Err n) e fine = absurd (false≢true fine)
 
 -- A session of the stream reader, or a draining, whose rows these are, and no number but 0.
-record Behind (Of : List Answer → Type 0) (numbers : List ℕ) (rows : List (List ℤ)) : Type 0 where
+record Behind (Of : List (Result Progress Refusal) → Type 0) (numbers : List ℕ) (rows : List (List ℤ)) : Type 0 where
   none : every (eqb 0) numbers ≡ true
-  answers : List Answer
+  answers : List (Result Progress Refusal)
   session : Of answers
   shown : RowsOf answers rows
 
@@ -87,16 +89,16 @@ zeros : (number : ℕ) (numbers : List ℕ) → number ≡ 0 → every (eqb 0) n
 zeros number numbers e rest = every_cons (eqb 0) number numbers (eq-eqb 0 number (sym e)) rest
 
 -- only the row of done says so
-is_done : (a : Answer) → row_kind (row_fed a) ≡ pos done_row → (n : ℕ) × (a ≡ Done n)
-is_done (Ready x) e = absurd (eqb-false (kind_row (kind_of x.frame)) done_row (of_frame (kind_of x.frame)).1 (ap nat_abs e))
-is_done (More n) e = absurd (omega (arith, ap nat_abs e))
-is_done (Done n) e = (n, refl)
-is_done (Refused n) e = absurd (omega (arith, ap nat_abs e))
+is_done : (a : (Result Progress Refusal)) → row_kind (row_fed a) ≡ pos done_row → (n : ℕ) × (a ≡ Ok (Done n))
+is_done (Ok (Ready x)) e = absurd (eqb-false (kind_row (kind_of x.frame)) done_row (of_frame (kind_of x.frame)).1 (ap nat_abs e))
+is_done (Ok (More n)) e = absurd (omega (arith, ap nat_abs e))
+is_done (Ok (Done n)) e = (n, refl)
+is_done (Err n) e = absurd (omega (arith, ap nat_abs e))
 
 -- closing is not refused
 module _ {closed : ℕ} {r : Reader} {number : ℕ} {after : Reader} (c : Closes r number after) (s : Serves closed r) where
   closed_zero : number ≡ 0
-  closed_zero = c.answers ∙ ap (λ (o : Outcome). refusal_of (said_to_turn o)) (served_shut r (facts r.family) s).0
+  closed_zero = c.answers ∙ ap (λ (o : (Result Unit Refusal)). refusal_of (said_to_turn o)) (served_shut r (facts r.family) s).0
 
   closed_serves : Serves 1 after
   closed_serves = subst (Serves 1) (sym c.leaves) (served_shut r (facts r.family) s).1
@@ -165,7 +167,7 @@ rows_tell family known was number reader freshens stream lengths numbers rows se
     let made = served_fresh family known in
     let is : reader ≡ (fresh family).reader = freshens.leaves ∙ rw known in
     let b = behind session (subst (Serves 0) (sym is) made.1) in (
-      freshens.answers ∙ ap (λ (o : Outcome). refusal_of (said_to_turn o)) made.0,
+      freshens.answers ∙ ap (λ (o : (Result Unit Refusal)). refusal_of (said_to_turn o)) made.0,
       record {
         none_refused = b.none;
         answers = b.answers;
@@ -202,7 +204,7 @@ module _ (r : Reader) (offered : List ℕ) where
 closing : (r : Reader) → Closes r (refusal_of (said_to_turn (shut r).outcome)) (shut r).reader
 closing r = record { answers = refl; leaves = refl }
 
-there_drained : {r : Reader} {answers : List Answer} → Draining r answers → Serves 1 r → (numbers : List ℕ) × (rows : List (List ℤ)) × RowDraining r numbers rows
+there_drained : {r : Reader} {answers : List (Result Progress Refusal)} → Draining r answers → Serves 1 r → (numbers : List ℕ) × (rows : List (List ℤ)) × RowDraining r numbers rows
 there_drained {r} (Draining.calls a e later) s =
     let served = served_closed r (facts r.family) s in
     let c = called r [] (omega arith) in
@@ -219,10 +221,10 @@ there_drained {r} (Draining.ends a n e done) s =
     let served = served_closed r (facts r.family) s in
     let c = called r [] (omega arith) in
     let h = had c (fed r []).answer refl served.fine in
-    let is : (fed r []).answer ≡ Done n = sym (ap (λ (f : Fed). f.answer) e.answers) ∙ done in
-    (number_of r [] ∷ [], row_of r [] ∷ [], RowDraining.ends (number_of r []) (reader_of r []) (row_of r []) c (h.kind ∙ ap (λ (b : Answer). row_kind (row_fed b)) is))
+    let is : (fed r []).answer ≡ Ok (Done n) = sym (ap (λ (f : Fed). f.answer) e.answers) ∙ done in
+    (number_of r [] ∷ [], row_of r [] ∷ [], RowDraining.ends (number_of r []) (reader_of r []) (row_of r []) c (h.kind ∙ ap (λ (b : (Result Progress Refusal)). row_kind (row_fed b)) is))
 
-pub rows_there : {r : Reader} {left lengths : List ℕ} {answers : List Answer} → Session r left lengths answers → Serves 0 r → length left < most_lent
+pub rows_there : {r : Reader} {left lengths : List ℕ} {answers : List (Result Progress Refusal)} → Session r left lengths answers → Serves 0 r → length left < most_lent
     → (numbers : List ℕ) × (rows : List (List ℤ)) × RowSession r left lengths numbers rows
 rows_there {r} (Session.calls {left = left} {lengths = lengths} n a e later) s small =
     let offered = take n left in
@@ -249,7 +251,7 @@ rows_there {r} (Session.closes t e later) s small =
 pub rows_end : (family : ℕ) → is_family family ≡ true
     → (was : Reader) (number : ℕ) (reader : Reader) → Freshens family was number reader
     → (pieces : List (List ℕ)) → length (stream_of pieces) < most_lent
-    → (answers : List Answer) × (follows : Following (fresh family).reader pieces answers)
+    → (answers : List (Result Progress Refusal)) × (follows : Following (fresh family).reader pieces answers)
     × (numbers : List ℕ) × (rows : List (List ℤ)) × RowSession reader (stream_of pieces) (followed follows).0 numbers rows
 rows_end family known was number reader freshens pieces small =
     let is : reader ≡ (fresh family).reader = freshens.leaves ∙ rw known in

@@ -1,9 +1,11 @@
 -- Demand 3 as a C program has it: sessions over whatever meets the promises of `amp_fresh`, `amp_feed` and `amp_close`, with
 -- room for every row.
 use Rattle.std.specs.Prelude.{ℕ, ◌≤◌, ◌<◌, ◌^◌, ◌≡◌, true, List, [], ◌∷◌, eqb, ℤ, pos, nat_abs, length, take, drop, get_or}
+use Rattle.rules.specs.declared.Refusal.{Refusal}
+use Rattle.stream_rules.specs.declared.Progress.{Progress}
+use Rattle.std.specs.Prelude.{Result}
 use Rattle.rules.specs.Bytes.{every}
 use Rattle.stream_rules.specs.declared.Reader.{Reader}
-use Rattle.stream_rules.specs.declared.Answer.{Answer}
 use Rattle.stream_laws.specs.Sessions.{Demand3}
 use Rattle.rows.specs.Rows.{longest_row, done_row, row_fed}
 use Rattle.row_stream.specs.FedRows.{FeedsRow}
@@ -48,7 +50,7 @@ pub data RowSession : Reader → List ℕ → List ℕ → List ℕ → List (Li
       → RowDraining after numbers rows → RowSession r [] [] (number ∷ numbers) rows
 
 -- rows that begin with those of the answers, one for each
-abbrev pub RowsOf : List Answer → List (List ℤ) → Type 0
+abbrev pub RowsOf : List (Result Progress Refusal) → List (List ℤ) → Type 0
 RowsOf [] [] = Unit {0}
 RowsOf [] (row ∷ rows) = ⊥
 RowsOf (a ∷ answers) [] = ⊥
@@ -58,6 +60,6 @@ RowsOf (a ∷ answers) (row ∷ rows) = (take (length (row_fed a)) row ≡ row_f
 -- rule finds in the whole stream.
 pub record RowDemand3 (family : ℕ) (stream numbers : List ℕ) (rows : List (List ℤ)) : Type 0 where
   pub none_refused : every (eqb 0) numbers ≡ true
-  pub answers : List Answer
+  pub answers : List (Result Progress Refusal)
   pub tells : Demand3 family stream answers
   pub shown : RowsOf answers rows

@@ -17,19 +17,20 @@ use Rattle.stream_laws.proofs.Looks.{drains, rule_drains}
 use Rattle.stream_laws.proofs.Families.{facts}
 use Rattle.search.proofs.Walk.{left}
 use Rattle.captures.specs.declared.spans.Span.{Span}
-use Rattle.captures.specs.Finds.{nothing, first_wanted, next_in}
+use Rattle.std.specs.Prelude.{Option, None}
+use Rattle.captures.specs.Finds.{start_of, length_of, first_wanted, next_in}
 
 module _ (family : ℕ) (bs : List ℕ) (place : ℕ) where
-  abbrev Same : List ℕ → ℕ → Span → Type 0
-  Same bytes at s = (bytes ≡ part s.start s.length bs) × (at ≡ s.start)
+  abbrev Same : List ℕ → ℕ → Option Span → Type 0
+  Same bytes at s = (bytes ≡ part (start_of s) (length_of s) bs) × (at ≡ start_of s)
 
   by-look : (l : Look)
-      → Same (by_look l (λ k n f behind. part k n (drop place bs)) (λ k rest. [])) (by_look l (λ k n f behind. place + k) (λ k rest. 0)) (first_wanted false place (drains (head family) place 0 l))
+      → Same (by_look l (λ k n f behind. part k n (drop place bs)) (λ k rest. [])) (by_look l (λ k n f behind. place + k) (λ k rest. 0)) (first_wanted false (drains (head family) place 0 l))
   unfolding first_wanted
   by-look (ready k n f behind) = (ap (take n) (drop-drop k place bs), refl)
   by-look (waiting k rest) = (refl, refl)
 
-  first_same : Same (first_frame family (drop place bs)) (first_place family (drop place bs) place) (first_wanted false place (left family bs place))
+  first_same : Same (first_frame family (drop place bs)) (first_place family (drop place bs) place) (first_wanted false (left family bs place))
   first_same =
       rw (rule_drains (head family) (longest family) (facts family) (drop place bs) place 0) (by-look (look (at_close (head family)) (drop place bs)))
 
@@ -39,6 +40,6 @@ module _ (family : ℕ) (bs : List ℕ) (place : ℕ) where
     where
       case : (b : Bool)
           → Same (cond b (first_frame family (drop place bs)) []) (cond b (first_place family (drop place bs) place) 0)
-          (cond b (first_wanted false place (left family bs place)) (nothing place))
+          (cond b (first_wanted false (left family bs place)) None)
       case true = first_same
       case false = (refl, refl)

@@ -5,13 +5,12 @@ ghost use Rattle.stream_rules.specs.Lister.{NextFrame};
 ghost use Rattle.captures.specs.Finds.{next_in};
 
 use rules::Frame;
-use search::{First, first_good};
+use search::first_good;
 use starts::is_family;
 use stream_rules::LONGEST_CAPTURE;
 use texts::text;
 
-// Where a frame stands in a capture, and the place reached: just behind it. The length is 0 where there
-// is none; the place is then as it was.
+// Where a frame stands in a capture, and the place reached: just behind it.
 #[derive(Clone, Copy)]
 pub struct Span {
     pub start: usize,
@@ -21,44 +20,40 @@ pub struct Span {
 
 // The next frame from a place on. It is none where no frame is left, the place is beyond the end, or
 // refusal 1 or 7 would apply.
-pub fn find(family: u8, capture: &[u8], place: usize, reports: bool) -> Span
+pub fn find(family: u8, capture: &[u8], place: usize, reports: bool) -> Option<Span>
     ensures { result ≡ next_in family capture.now place reports }
 {
-    let none = Span {
-        start: 0,
-        length: 0,
-        behind: place,
-    };
     if !is_family(family) {
-        return none;
+        return None;
     }
     if LONGEST_CAPTURE < capture.len() {
-        return none;
+        return None;
     }
     let mut at = place;
-    while at < capture.len() {
-        let First::At(start, length, frame) = first_good(family, capture, at) else {
-            return none;
-        };
-        at = start + length;
+    // a step is as long as what it passes, so that no iterator counts the places
+    while let Some(first) = first_good(family, capture, at) {
+        at = first.start + first.length;
         if reports {
-            let Frame::Status(_) = frame else {
+            // document 01 names this form
+            let Frame::Status(_) = first.frame else {
                 continue;
             };
         }
-        return Span {
-            start,
-            length,
+        return Some(Span {
+            start: first.start,
+            length: first.length,
             behind: at,
-        };
+        });
     }
-    none
+    None
 }
 
 // The earliest good frame from a place on, as a part of the capture, or the empty part.
 pub fn next_frame(family: u8, capture: &[u8], place: usize) -> &[u8]
     ensures { NextFrame family capture.entry place result }
 {
-    let span = find(family, capture, place, false);
+    let Some(span) = find(family, capture, place, false) else {
+        return &capture[..0];
+    };
     text(capture, span.start, span.length)
 }

@@ -25,8 +25,9 @@ pub fn next<'s, 'a>(reader: &'s mut CaptureReader<'a>, family: u8, reports: bool
     ensures { Gives family reports reader.old reader.new result }
 {
     let capture = reader.capture;
-    let place = reader.place;
-    let span = find(family, capture, place, reports);
+    let Some(span) = find(family, capture, reader.place, reports) else {
+        return &capture[..0];
+    };
     reader.place = span.behind;
     text(capture, span.start, span.length)
 }

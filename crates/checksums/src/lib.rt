@@ -4,5 +4,5 @@
 mod hexadecimal;
 mod sentence_sums;
 
-pub use hexadecimal::{HexByte, HexPairs, hex_pair, hex_pairs};
+pub use hexadecimal::{hex_pair, hex_pairs};
 pub use sentence_sums::{Sums, fletcher, payload_byte};

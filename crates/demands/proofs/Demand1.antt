@@ -3,6 +3,11 @@
 -- the numbers of the writers; and that a list is as before where it is refused. Each is about whatever meets a promise.
 -- Assumes nothing.
 use Prim.Native.Nat.{ℕ, ◌≤◌}
+use Rattle.rules.specs.Answers.{Read}
+use Rattle.rules.specs.Answers.{Wrote}
+use Rattle.rules.specs.Refusals.{no_code, no_family, no_record, no_room, not_good}
+use Rattle.rules.specs.declared.Refusal.TheVariants.{NoFamily, NoRoom, TooLong}
+use Rattle.std.specs.Prelude.{Err, Ok}
 use mathlib.Core.Path.{◌≡◌, refl, sym, ap, ◌∙◌}
 use mathlib.Core.Bool.{Bool, true, false, ◌&&◌, cond, not}
 use mathlib.Core.List.{List, [], ◌∷◌, ◌++◌}
@@ -11,20 +16,20 @@ use native.Mathlib.Omega.{arith}
 use lib.Dec.{leb}
 use lib.IntN.{pos}
 use lib.ListN.{length, drop}
-use Rattle.rules.specs.Answers.{a_frame, length_written, Says, no, yes, no_family, no_code, no_record, no_room, not_good, kind_of, values, said, said_to_write, values_or8, read_one, is_family, allowed, bytes_of, not_allowed, Reads, Writes}
+use Rattle.rules.specs.Answers.{a_frame, length_written, Says, no, yes, kind_of, values, said, said_to_write, values_or8, read_one, is_family, allowed, bytes_of, not_allowed, Reads, Writes}
 use Rattle.rules.specs.declared.Message as MessageType
 use Rattle.rules.specs.declared.Message.TheVariants.{Question, Number, Version, Clock, Tune, OtherLetters}
 use Rattle.rules.specs.declared.Frame.{Frame}
 use Rattle.rules.specs.declared.Frame.TheVariants.{Message}
 use Rattle.rules.specs.declared.Kind.{Kind}
 use Rattle.rules.specs.declared.Kind.TheVariants.{OfAck, OfStatus, OfCommand, OfSentence, OfQuestion, OfResponse, OfLetters}
-use Rattle.rules.specs.declared.Reading.{Reading}
-use Rattle.rules.specs.declared.Written.{Written}
-use Rattle.stream_rules.specs.Lister.{frames, starts_of, fits, too_long, Lists}
-use Rattle.stream_rules.specs.declared.Listed.TheVariants.{Count, Refused}
+use Rattle.stream_rules.specs.Lister.{frames, starts_of, fits, Lists}
 use Rattle.demands.proofs.Demand2.{IsOne, exact, nothing_else}
+use Rattle.rules.specs.declared.Refusal.TheVariants.{NoCode, NoRecord}
+use Rattle.rules.specs.declared.Refusal.{Refusal}
+use Rattle.rules.specs.Refusals.{number_for}
 
-module _ (family : ℕ) (bs : List ℕ) (answer : Reading) (reads : Reads family bs answer) where
+module _ (family : ℕ) (bs : List ℕ) (answer : Read) (reads : Reads family bs answer) where
   -- The reader of one frame: 1 where there is no such family,
   pub read_1 : is_family family ≡ false → said answer ≡ no no_family
   read_1 e = reads.says ∙ (λ i. cond (not (e i)) (no no_family) (values_or8 (read_one family bs)))
@@ -40,15 +45,15 @@ module _ (family : ℕ) (bs : List ℕ) (answer : Reading) (reads : Reads family
       ∙ (λ i. cond (not (known i)) (no no_family) (values_or8 (read_one family bs)))
       ∙ ap values_or8 (nothing_else family bs none).1
 
--- A writer's number for a code is 2, and for a record 3.
-pub code_2 : (c : ℕ) → (not_allowed (OfAck c) ≡ no_code) × (not_allowed (OfCommand c) ≡ no_code)
+-- A writer refuses a code by number 2, and a record by number 3.
+pub code_2 : (c : ℕ) → (not_allowed (OfAck c) ≡ NoCode) × (not_allowed (OfCommand c) ≡ NoCode)
 code_2 c = (refl, refl)
 
-pub record_3 : (n : ℕ) → (not_allowed OfStatus ≡ no_record) × (not_allowed (OfSentence n) ≡ no_record)
+pub record_3 : (n : ℕ) → (not_allowed OfStatus ≡ NoRecord) × (not_allowed (OfSentence n) ≡ NoRecord)
 record_3 n = (refl, refl)
 
 -- (a message is a record, whatever its kind)
-pub message_3 : (m : MessageType.Message) → not_allowed (kind_of (Message m)) ≡ no_record
+pub message_3 : (m : MessageType.Message) → not_allowed (kind_of (Message m)) ≡ NoRecord
 message_3 (Question n) = refl
 message_3 (Number n k) = refl
 message_3 (Version a b) = refl
@@ -62,7 +67,7 @@ number (no n) = n
 number (yes k vs) = 0
 
 -- so it is neither 4 nor none
-two_or_three : (k : Kind) → (no_code ≤ not_allowed k) × (not_allowed k ≤ no_record)
+two_or_three : (k : Kind) → (no_code ≤ number_for (not_allowed k)) × (number_for (not_allowed k) ≤ no_record)
 two_or_three (OfAck c) = omega arith
 two_or_three OfStatus = omega arith
 two_or_three (OfCommand c) = omega arith
@@ -72,18 +77,18 @@ two_or_three (OfResponse n) = omega arith
 two_or_three (OfLetters w) = omega arith
 
 -- It is given exactly where the code or record is not allowed.
-pub write_no : (f : Frame) (out : List ℕ) (answer : Written) (after : List ℕ) → Writes (allowed f) (not_allowed (kind_of f)) (bytes_of f) out answer after
-    → (said_to_write answer ≡ no (not_allowed (kind_of f))) ↔ (allowed f ≡ false)
+pub write_no : (f : Frame) (out : List ℕ) (answer : Wrote) (after : List ℕ) → Writes (allowed f) (not_allowed (kind_of f)) (bytes_of f) out answer after
+    → (said_to_write answer ≡ no (number_for (not_allowed (kind_of f)))) ↔ (allowed f ≡ false)
 write_no f out answer after w = (λ e. back (allowed f) (leb (length (bytes_of f)) (length out)) (sym w.says ∙ e), λ e. w.says ∙ rw e)
   where
-    back : (a room : Bool) → cond (not a) (no (not_allowed (kind_of f))) (cond (not room) (no no_room) (yes length_written (pos (length (bytes_of f)) ∷ []))) ≡ no (not_allowed (kind_of f))
+    back : (a room : Bool) → cond (not a) (no (number_for (not_allowed (kind_of f)))) (cond (not room) (no no_room) (yes length_written (pos (length (bytes_of f)) ∷ []))) ≡ no (number_for (not_allowed (kind_of f)))
         → a ≡ false
     back false room e = refl
     back true false e = absurd (omega (arith, two_or_three (kind_of f), ap number e))
     back true true e = absurd (omega (arith, two_or_three (kind_of f), ap number e))
 
 -- A lister that refuses leaves the list as it was.
-pub list_as_before : (family : ℕ) (capture out : List ℕ) (n : ℕ) (after : List ℕ) → Lists family capture out (Refused n) after → after ≡ out
+pub list_as_before : (family : ℕ) (capture out : List ℕ) (n : Refusal) (after : List ℕ) → Lists family capture out (Err n) after → after ≡ out
 list_as_before family capture out n after lists =
     lists.content
     ∙ case (is_family family) (fits capture) (leb (length (frames family capture)) (length out)) lists.answers
@@ -92,7 +97,7 @@ list_as_before family capture out n after lists =
     found = starts_of (frames family capture) ++ drop (length (frames family capture)) out
 
     case : (known short room : Bool)
-        → Refused n ≡ cond (not known) (Refused no_family) (cond (not short) (Refused too_long) (cond (not room) (Refused no_room) (Count (length (frames family capture)))))
+        → Err n ≡ cond (not known) (Err NoFamily) (cond (not short) (Err TooLong) (cond (not room) (Err NoRoom) (Ok (length (frames family capture)))))
         → cond (known && short && room) found out ≡ out
     case false short room e = refl
     case true false room e = refl

@@ -3,6 +3,9 @@
 -- run meet.
 -- Assumes nothing.
 use Prim.Native.Nat.{ℕ}
+use Rattle.rules.specs.declared.Refusal.{Refusal}
+use Rattle.stream_rules.specs.declared.Progress.{Progress}
+use Rattle.std.specs.Prelude.{Ok, Result}
 use mathlib.Core.Path.{◌≡◌}
 use mathlib.Core.Bool.{true}
 use mathlib.Core.List.{List, map}
@@ -11,9 +14,7 @@ use Rattle.rules.specs.Answers.{is_family}
 use Rattle.stream_rules.specs.Rule.{Found}
 use Rattle.stream_rules.specs.Streams.{wrap, Makes}
 use Rattle.stream_rules.specs.Lister.{frames, starts_of, Lists}
-use Rattle.stream_rules.specs.declared.Answer.{Answer}
 use Rattle.stream_rules.specs.declared.Turned.{Turned}
-use Rattle.stream_rules.specs.declared.Listed.TheVariants.{Count}
 use Rattle.stream_laws.specs.Sessions.{Session, Following, stream_of, handed, Demand3}
 use Rattle.stream_laws.specs.Earliest.{EarliestFirst}
 use Rattle.stream_laws.proofs.Sessions as sessions
@@ -33,14 +34,14 @@ module _ (family : ℕ) (known : is_family family ≡ true) where
 
   module _ (t : Turned) (begins : Makes family t) where
     -- However a stream is cut, there is a session that follows the cut, and it is one of those below.
-    pub sessions_end : (pieces : List (List ℕ)) → (answers : List Answer) × Following t.reader pieces answers
+    pub sessions_end : (pieces : List (List ℕ)) → (answers : List (Result Progress Refusal)) × Following t.reader pieces answers
     sessions_end = sessions-there.possible family known t begins
 
-    pub following_is_session : (pieces : List (List ℕ)) (answers : List Answer) → Following t.reader pieces answers
+    pub following_is_session : (pieces : List (List ℕ)) (answers : List (Result Progress Refusal)) → Following t.reader pieces answers
         → (lengths : List ℕ) × Session t.reader (stream_of pieces) lengths answers
     following_is_session pieces answers = sessions-there.followed
 
-    module _ (stream lengths : List ℕ) (answers : List Answer) (session : Session t.reader stream lengths answers) where
+    module _ (stream lengths : List ℕ) (answers : List (Result Progress Refusal)) (session : Session t.reader stream lengths answers) where
       -- Demand 3, of every session.
       pub every_session : Demand3 family stream answers
       every_session = sessions.demand3 family known (facts family) t begins stream lengths answers session
@@ -49,6 +50,6 @@ module _ (family : ℕ) (known : is_family family ≡ true) where
       pub stream_starts : starts_of (handed answers) ≡ map wrap (starts_of (frames family stream))
       stream_starts = listing.starts_agree family known (facts family) t begins stream lengths answers session
 
-      pub listed_starts : (out : List ℕ) (n : ℕ) (after : List ℕ) → Lists family stream out (Count n) after
+      pub listed_starts : (out : List ℕ) (n : ℕ) (after : List ℕ) → Lists family stream out (Ok n) after
           → (n ≡ length (handed answers)) × (take n after ≡ starts_of (handed answers))
       listed_starts = listing.lister_agrees family known (facts family) t begins stream lengths answers session

@@ -4,6 +4,9 @@
 -- are not listed have no writer.
 -- Assumes nothing.
 use Prim.Native.Nat.{ℕ, ◌≤◌, ◌<◌}
+use Rattle.rules.specs.Answers.{Wrote}
+use Rattle.rules.specs.declared.Refusal.TheVariants.{NoRoom}
+use Rattle.std.specs.Prelude.{Err, Ok}
 use mathlib.Core.Path.{◌≡◌, refl, sym, ap, ◌∙◌}
 use mathlib.Core.Bool.{true, false, ◌&&◌, cond, true≢false}
 use mathlib.Core.List.{List, ◌++◌}
@@ -15,7 +18,7 @@ use Rattle.rules.specs.Codes.{is_code, is_ack_code, command, ack}
 use Rattle.rules.specs.Status.{status_frame, status_in_range, status_bytes}
 use Rattle.rules.specs.Sentences.{sentence_frame, in_range02, in_range03, in_range05, bytes02, bytes03, bytes05}
 use Rattle.rules.specs.Messages.{message_in_range, message_bytes}
-use Rattle.rules.specs.Answers.{no_code, no_record, no_room, kind_of, allowed, bytes_of, has_writer, not_allowed, Reads, Writes}
+use Rattle.rules.specs.Answers.{kind_of, allowed, bytes_of, has_writer, not_allowed, Reads, Writes}
 use Rattle.rules.specs.Form.{in_form}
 use Rattle.rules.specs.declared.Frame.{Frame}
 use Rattle.rules.specs.declared.Frame.TheVariants.{Ack, Status, Command, Apa02, Apa03, Apa05, Other, Message}
@@ -26,56 +29,54 @@ use Rattle.rules.specs.declared.Status as StatusType
 use Rattle.rules.specs.declared.Sentence02.{Sentence02}
 use Rattle.rules.specs.declared.Sentence03.{Sentence03}
 use Rattle.rules.specs.declared.Sentence05.{Sentence05}
-use Rattle.rules.specs.declared.Reading.TheVariants.{Good}
-use Rattle.rules.specs.declared.Written.{Written}
-use Rattle.rules.specs.declared.Written.TheVariants.{Length, Refused as NotWritten}
 use Rattle.demands.proofs.Demand1.{message_3}
 use Rattle.demands.proofs.Demand2.{read_allowed, writes_again}
+use Rattle.rules.specs.declared.Refusal.TheVariants.{NoCode, NoRecord}
 
 -- what the theorems of demand 2 speak of: a writer of a frame
-abbrev pub WritesFrame : Frame → List ℕ → Written → List ℕ → Type 0
+abbrev pub WritesFrame : Frame → List ℕ → Wrote → List ℕ → Type 0
 WritesFrame f out answer after = Writes (allowed f) (not_allowed (kind_of f)) (bytes_of f) out answer after
 
-module _ (out : List ℕ) (answer : Written) (after : List ℕ) where
-  pub write_ack : (c : ℕ) → Writes (is_ack_code c) no_code (ack c) out answer after → WritesFrame (Ack c) out answer after
+module _ (out : List ℕ) (answer : Wrote) (after : List ℕ) where
+  pub write_ack : (c : ℕ) → Writes (is_ack_code c) NoCode (ack c) out answer after → WritesFrame (Ack c) out answer after
   unfolding allowed bytes_of
   write_ack c w = w
 
-  pub write_command : (c : ℕ) → Writes (is_code c) no_code (command c) out answer after → WritesFrame (Command c) out answer after
+  pub write_command : (c : ℕ) → Writes (is_code c) NoCode (command c) out answer after → WritesFrame (Command c) out answer after
   unfolding allowed bytes_of
   write_command c w = w
 
-  pub write_status : (s : StatusType.Status) → Writes (status_in_range s) no_record (status_bytes s) out answer after → WritesFrame (Status s) out answer after
+  pub write_status : (s : StatusType.Status) → Writes (status_in_range s) NoRecord (status_bytes s) out answer after → WritesFrame (Status s) out answer after
   unfolding allowed bytes_of
   write_status s w = w
 
-  pub write_02 : (r : Sentence02) → Writes (in_range02 r) no_record (bytes02 r) out answer after → WritesFrame (Apa02 r) out answer after
+  pub write_02 : (r : Sentence02) → Writes (in_range02 r) NoRecord (bytes02 r) out answer after → WritesFrame (Apa02 r) out answer after
   unfolding allowed bytes_of
   write_02 r w = w
 
-  pub write_03 : (r : Sentence03) → Writes (in_range03 r) no_record (bytes03 r) out answer after → WritesFrame (Apa03 r) out answer after
+  pub write_03 : (r : Sentence03) → Writes (in_range03 r) NoRecord (bytes03 r) out answer after → WritesFrame (Apa03 r) out answer after
   unfolding allowed bytes_of
   write_03 r w = w
 
-  pub write_05 : (r : Sentence05) → Writes (in_range05 r) no_record (bytes05 r) out answer after → WritesFrame (Apa05 r) out answer after
+  pub write_05 : (r : Sentence05) → Writes (in_range05 r) NoRecord (bytes05 r) out answer after → WritesFrame (Apa05 r) out answer after
   unfolding allowed bytes_of
   write_05 r w = w
 
-  pub write_message : (m : MessageType.Message) → Writes (message_in_range m) no_record (message_bytes m) out answer after
+  pub write_message : (m : MessageType.Message) → Writes (message_in_range m) NoRecord (message_bytes m) out answer after
       → WritesFrame (Message m) out answer after
   unfolding allowed bytes_of
   write_message m w = rw (message_3 m) w
 
 -- what is at the front of the output, where the frame is allowed and there is room
-front : (f : Frame) (out : List ℕ) (answer : Written) (after : List ℕ) → WritesFrame f out answer after → allowed f ≡ true → length (bytes_of f) ≤ length out
+front : (f : Frame) (out : List ℕ) (answer : Wrote) (after : List ℕ) → WritesFrame f out answer after → allowed f ≡ true → length (bytes_of f) ≤ length out
     → take (length (bytes_of f)) after ≡ bytes_of f
 front f out answer after w e k =
     let l = le-leb (length (bytes_of f)) (length out) k in
     ap (take (length (bytes_of f))) (w.content ∙ (λ i. cond (e i && l i) (bytes_of f ++ drop (length (bytes_of f)) out) out))
     ∙ take-append_seam (bytes_of f) (drop (length (bytes_of f)) out)
 
-module _ (family : ℕ) (bs : List ℕ) (f : Frame) (reads : Reads family bs (Good f)) (writer : has_writer f ≡ true)
-    (out : List ℕ) (answer : Written) (after : List ℕ) (w : WritesFrame f out answer after) (room : length (bytes_of f) ≤ length out) where
+module _ (family : ℕ) (bs : List ℕ) (f : Frame) (reads : Reads family bs (Ok f)) (writer : has_writer f ≡ true)
+    (out : List ℕ) (answer : Wrote) (after : List ℕ) (w : WritesFrame f out answer after) (room : length (bytes_of f) ≤ length out) where
   pub read_and_written_again : (take (length (bytes_of f)) after ≡ bs) ↔ (in_form f bs ≡ true)
   read_and_written_again =
       let read = sym reads.answers in
@@ -85,11 +86,11 @@ module _ (family : ℕ) (bs : List ℕ) (f : Frame) (reads : Reads family bs (Go
         λ e. same ∙ again.1 e,
       )
 
-pub no_room_refused : (f : Frame) (out : List ℕ) (answer : Written) (after : List ℕ) → WritesFrame f out answer after → allowed f ≡ true
-    → length out < length (bytes_of f) → (answer ≡ NotWritten no_room) × (after ≡ out)
+pub no_room_refused : (f : Frame) (out : List ℕ) (answer : Wrote) (after : List ℕ) → WritesFrame f out answer after → allowed f ≡ true
+    → length out < length (bytes_of f) → (answer ≡ Err NoRoom) × (after ≡ out)
 no_room_refused f out answer after w e k =
     let l = lt-leb (length (bytes_of f)) (length out) k in (
-      w.answers ∙ (λ i. cond (e i) (cond (l i) (Length (length (bytes_of f))) (NotWritten no_room)) (NotWritten (not_allowed (kind_of f)))),
+      w.answers ∙ (λ i. cond (e i) (cond (l i) (Ok (length (bytes_of f))) (Err NoRoom)) (Err (not_allowed (kind_of f)))),
       w.content ∙ (λ i. cond (e i && l i) (bytes_of f ++ drop (length (bytes_of f)) out) out),
     )
 

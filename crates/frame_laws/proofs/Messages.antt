@@ -3,6 +3,7 @@
 -- A message is its letters and what stands behind them in a frame that holds nothing else; `MessageParts` says how each kind
 -- is laid out, and the argument from that is made once. That reading is exact stands in `MessageReading`. Assumes nothing.
 use Prim.Native.Nat.{ℕ, ◌-◌, ◌≤◌, ◌<◌}
+use Rattle.std.specs.Prelude.{Ok}
 use Prim.Native.Char.{code}
 use mathlib.Core.Path.{◌≡◌, sym, ap, subst, subst⁻¹, ◌∙◌}
 use mathlib.Core.Bool.{true}
@@ -18,7 +19,6 @@ use Rattle.rules.specs.Form.{in_form}
 use Rattle.rules.specs.declared.Message as MessageType
 use Rattle.rules.specs.declared.Frame.{Frame}
 use Rattle.rules.specs.declared.Frame.TheVariants.{Message}
-use Rattle.rules.specs.declared.Reading.TheVariants.{Good}
 use Rattle.frame_laws.proofs.Bytes.{tests, both_pass, bounds_between, same_eq, eq_same, every_append, every_split, every_weaker}
 use Rattle.frame_laws.proofs.Exact.{IsBehind, IsFrame}
 use Rattle.frame_laws.proofs.Letters.{capitals_letters, capitals_same, run_ends, run_front, letters_run, letters_behind, in_capitals}
@@ -91,14 +91,14 @@ module _ (m : MessageType.Message) (fits : message_in_range m ≡ true) where
   message_length = omega (arith, ap length laid_out.bytes, length-append (laid_body m) (code ";" ∷ []), laid_length)
 
 -- A message in range, once written, reads back the same. (Letters that are not listed have no writer, and are never allowed.)
-message_back : (m : MessageType.Message) → allowed (Message m) ≡ true → read_one 4 (bytes_of (Message m)) ≡ Good (Message m)
+message_back : (m : MessageType.Message) → allowed (Message m) ≡ true → read_one 4 (bytes_of (Message m)) ≡ Ok (Message m)
 unfolding allowed bytes_of
 message_back m fits =
-    subst⁻¹ (λ (bs : List ℕ). read_one 4 bs ≡ Good (Message m)) (laid_out m fits).bytes
+    subst⁻¹ (λ (bs : List ℕ). read_one 4 bs ≡ Ok (Message m)) (laid_out m fits).bytes
     (message_read (message_frame (laid_body m)) m (laid_is_message m fits))
 
-pub family4_back : (f : Frame) → family_of (kind_of f) ≡ 4 → allowed f ≡ true → read_one 4 (bytes_of f) ≡ Good f
-family4_back = for_messages (λ (f : Frame). allowed f ≡ true → read_one 4 (bytes_of f) ≡ Good f) message_back
+pub family4_back : (f : Frame) → family_of (kind_of f) ≡ 4 → allowed f ≡ true → read_one 4 (bytes_of f) ≡ Ok f
+family4_back = for_messages (λ (f : Frame). allowed f ≡ true → read_one 4 (bytes_of f) ≡ Ok f) message_back
 
 -- What was read and has a writer may be written,
 message_allowed : (bs : List ℕ) (m : MessageType.Message) → IsFrame bs (Message m)
@@ -106,7 +106,7 @@ message_allowed : (bs : List ℕ) (m : MessageType.Message) → IsFrame bs (Mess
 unfolding allowed
 message_allowed bs m h writer = behind_in_range m (behind_in bs) writer h.2
 
-pub family4_allowed : (bs : List ℕ) (f : Frame) → read_one 4 bs ≡ Good f → has_writer f ≡ true → allowed f ≡ true
+pub family4_allowed : (bs : List ℕ) (f : Frame) → read_one 4 bs ≡ Ok f → has_writer f ≡ true → allowed f ≡ true
 family4_allowed bs f e =
     let h = (family4_exact bs f).0 e in
     for_messages (λ (k : Frame). IsFrame bs k → has_writer k ≡ true → allowed k ≡ true) (message_allowed bs) f h.0 h.1
@@ -143,7 +143,7 @@ module _ (bs : List ℕ) (m : MessageType.Message) (h : IsFrame bs (Message m)) 
       )
 
 -- So it gives its own bytes if, and only if, its letters were capitals.
-pub family4_again : (bs : List ℕ) (f : Frame) → read_one 4 bs ≡ Good f → has_writer f ≡ true → (bytes_of f ≡ bs) ↔ (in_form f bs ≡ true)
+pub family4_again : (bs : List ℕ) (f : Frame) → read_one 4 bs ≡ Ok f → has_writer f ≡ true → (bytes_of f ≡ bs) ↔ (in_form f bs ≡ true)
 family4_again bs f e =
     let h = (family4_exact bs f).0 e in
     for_messages (λ (k : Frame). IsFrame bs k → has_writer k ≡ true → (bytes_of k ≡ bs) ↔ (in_form k bs ≡ true))

@@ -1,5 +1,9 @@
 -- What the answer of a reader of one frame says in the terms of document 01, from what it is. Assumes nothing.
 use Prim.Native.Nat.{ℕ}
+use Rattle.rules.specs.Answers.{Read}
+use Rattle.rules.specs.Refusals.{no_family}
+use Rattle.rules.specs.declared.Refusal.TheVariants.{NoFamily, NotGood}
+use Rattle.std.specs.Prelude.{Err, Ok}
 use mathlib.Core.Path.{◌≡◌, refl, sym, ap, ◌∙◌}
 use mathlib.Core.Bool.{Bool, true, false, ◌&&◌, ◌||◌, cond, not, false≢true}
 use mathlib.Core.List.{List, [], ◌∷◌}
@@ -9,27 +13,25 @@ use Rattle.rules.specs.Codes.{is_ack, is_command}
 use Rattle.rules.specs.Status.{is_status}
 use Rattle.rules.specs.Sentences.{is_sentence, payload_of, number_of, texts_of, is02, is03, is05}
 use Rattle.rules.specs.Messages.{is_message, body_of, letters_in, behind_letters, word, as_letters, behind, is_number, are_pairs, version_marks, clock_marks, clock_of, clock_in_range}
-use Rattle.rules.specs.Answers.{no, no_family, not_good, said, values_or8, read_family1, read_texts, read_family2, read_family3, or_question, read_behind, read_body, read_family4, read_one, is_family, Reads}
+use Rattle.rules.specs.Answers.{no, said, values_or8, read_family1, read_texts, read_family2, read_family3, or_question, read_behind, read_body, read_family4, read_one, is_family, Reads}
 use Rattle.rules.specs.declared.Letters.{Letters}
 use Rattle.rules.specs.declared.Behind.{Behind}
 use Rattle.rules.specs.declared.Behind.TheVariants.{ANumber, AVersion, AClock, Alone, Anything}
 use Rattle.rules.specs.declared.Frame.{Frame}
-use Rattle.rules.specs.declared.Reading.{Reading}
-use Rattle.rules.specs.declared.Reading.TheVariants.{Good, Refused}
 
 -- a choice between a frame and refusal 8, as the families' readers make it, says its values or 8
-abbrev pub Says8 : Reading → Type 0
+abbrev pub Says8 : Read → Type 0
 Says8 r = said r ≡ values_or8 r
 
-frame_or : (test : Bool) (f : Frame) (r : Reading) → Says8 r → Says8 (cond test (Good f) r)
+frame_or : (test : Bool) (f : Frame) (r : Read) → Says8 r → Says8 (cond test (Ok f) r)
 frame_or true f r e = refl
 frame_or false f r e = e
 
-or_8 : (test : Bool) (r : Reading) → Says8 r → Says8 (cond test r (Refused not_good))
+or_8 : (test : Bool) (r : Read) → Says8 r → Says8 (cond test r (Err NotGood))
 or_8 true r e = e
 or_8 false r e = refl
 
-either : (test : Bool) (r s : Reading) → Says8 r → Says8 s → Says8 (cond test r s)
+either : (test : Bool) (r s : Read) → Says8 r → Says8 s → Says8 (cond test r s)
 either true r s e d = e
 either false r s e d = d
 
@@ -52,7 +54,7 @@ family3_says : (bs : List ℕ) → Says8 (read_family3 bs)
 unfolding read_family3
 family3_says bs = frame_or (is_command bs) _ _ refl
 
-or-question : (n : ℕ) (t : List ℕ) (r : Reading) → Says8 r → Says8 (or_question n t r)
+or-question : (n : ℕ) (t : List ℕ) (r : Read) → Says8 r → Says8 (or_question n t r)
 or-question n [] r e = refl
 or-question n (b ∷ t) r e = e
 
@@ -69,9 +71,9 @@ family4_says bs =
     let letters = letters_in (body_of bs) in
     or_8 (is_message bs) _ (behind_says (word letters) (as_letters letters) (behind (word letters)) (behind_letters (body_of bs)))
 
-abbrev by_family : List ℕ → Bool → Bool → Bool → Bool → Reading
+abbrev by_family : List ℕ → Bool → Bool → Bool → Bool → Read
 by_family bs a b c d =
-    cond a (read_family1 bs) (cond b (read_family2 bs) (cond c (read_family3 bs) (cond d (read_family4 bs) (Refused no_family))))
+    cond a (read_family1 bs) (cond b (read_family2 bs) (cond c (read_family3 bs) (cond d (read_family4 bs) (Err NoFamily))))
 
 one_says : (family : ℕ) (bs : List ℕ) → said (read_one family bs) ≡ cond (not (is_family family)) (no no_family) (values_or8 (read_one family bs))
 unfolding read_one one_of
@@ -85,15 +87,15 @@ one_says family bs = case (eqb family 1) (eqb family 2) (eqb family 3) (eqb fami
     case false false false true = family4_says bs
     case false false false false = refl
 
-pub reads : {family : ℕ} {bs : List ℕ} {answer : Reading} → answer ≡ read_one family bs → Reads family bs answer
+pub reads : {family : ℕ} {bs : List ℕ} {answer : Read} → answer ≡ read_one family bs → Reads family bs answer
 reads {family} {bs} e = record { answers = e; says = ap said e ∙ one_says family bs }
 
 -- Where there is no such family, nothing is read.
-pub no-family : (family : ℕ) (bs : List ℕ) → is_family family ≡ false → read_one family bs ≡ Refused no_family
+pub no-family : (family : ℕ) (bs : List ℕ) → is_family family ≡ false → read_one family bs ≡ Err NoFamily
 unfolding read_one one_of
 no-family family bs = case (eqb family 1) (eqb family 2) (eqb family 3) (eqb family 4)
   where
-    case : (a b c d : Bool) → (a || (b || (c || (d || false)))) ≡ false → by_family bs a b c d ≡ Refused no_family
+    case : (a b c d : Bool) → (a || (b || (c || (d || false)))) ≡ false → by_family bs a b c d ≡ Err NoFamily
     case true b c d e = absurd (false≢true (sym e))
     case false true c d e = absurd (false≢true (sym e))
     case false false true d e = absurd (false≢true (sym e))

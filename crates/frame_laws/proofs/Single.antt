@@ -2,24 +2,25 @@
 -- promise is an equation with the result alone on its left side, or a record of such equations, so it is proved once, for
 -- every right side. Assumes nothing.
 use Prim.Native.Nat.{ℕ}
+use Rattle.rules.specs.Answers.{Read}
+use Rattle.rules.specs.Answers.{Wrote}
 use mathlib.Core.Path.{◌≡◌, sym, ◌∙◌}
 use mathlib.Core.Bool.{Bool}
 use mathlib.Core.List.{List}
 use denote.Ref.{Bor}
 use Rattle.rules.specs.Bytes.{PartOf}
 use Rattle.rules.specs.Answers.{Reads, Writes}
-use Rattle.rules.specs.declared.Reading.{Reading}
-use Rattle.rules.specs.declared.Written.{Written}
+use Rattle.rules.specs.declared.Refusal.{Refusal}
 
 pub one_answer : {A : Type 0} {meant a b : A} → a ≡ meant → b ≡ meant → a ≡ b
 one_answer p q = p ∙ sym q
 
 -- a reader of one frame
-pub read_single : (family : ℕ) (bytes : List ℕ) (a b : Reading) → Reads family bytes a → Reads family bytes b → a ≡ b
+pub read_single : (family : ℕ) (bytes : List ℕ) (a b : Read) → Reads family bytes a → Reads family bytes b → a ≡ b
 read_single family bytes a b p q = one_answer p.answers q.answers
 
 -- a writer: its answer and the lent output
-pub writes_single : (allowed : Bool) (n : ℕ) (frame out : List ℕ) (a b : Written) (x y : List ℕ)
+pub writes_single : (allowed : Bool) (n : Refusal) (frame out : List ℕ) (a b : Wrote) (x y : List ℕ)
     → Writes allowed n frame out a x → Writes allowed n frame out b y
     → (a ≡ b) × (x ≡ y)
 writes_single allowed n frame out a b x y p q = (one_answer p.answers q.answers, one_answer p.content q.content)

@@ -2,6 +2,8 @@
 -- of a report, which their lengths tell apart.
 -- Assumes nothing.
 use Prim.Native.Nat.{ℕ, ◌≤◌, ◌<◌}
+use Rattle.std.specs.Prelude.{Err, Ok}
+use Rattle.rules.specs.declared.Refusal.TheVariants.{NotGood}
 use mathlib.Core.Path.{◌≡◌, refl, sym, ap, ◌∙◌}
 use mathlib.Core.Bool.{Bool, true, false, ◌||◌, cond, or-false}
 use mathlib.Core.List.{List}
@@ -11,7 +13,6 @@ use Rattle.rules.specs.Answers.{is_good, read_one, read_family1, read_family3}
 use Rattle.rules.specs.Codes.{is_ack, is_command}
 use Rattle.rules.specs.Status.{status_in, is_status}
 use Rattle.rules.specs.declared.Frame.TheVariants.{Ack, Status, Command}
-use Rattle.rules.specs.declared.Reading.TheVariants.{Good, Refused}
 use Rattle.spe.proofs.PacketFrames.{not_ack}
 use Rattle.spe.proofs.ReportFrames.{not_status}
 use Rattle.frames.proofs.Families.{family1, family3}
@@ -20,7 +21,7 @@ a_command : (s : List ℕ) → is_command s ≡ is_good (read_family3 s)
 unfolding read_family3
 a_command s = by (is_command s)
   where
-    by : (a : Bool) → a ≡ is_good (cond a (Good (Command (get_or s 4 0))) (Refused 8))
+    by : (a : Bool) → a ≡ is_good (cond a (Ok (Command (get_or s 4 0))) (Err NotGood))
     by true = refl
     by false = refl
 
@@ -28,7 +29,7 @@ a_reply : (s : List ℕ) → (is_ack s || is_status s) ≡ is_good (read_family1
 unfolding read_family1
 a_reply s = by (is_ack s) (is_status s)
   where
-    by : (a b : Bool) → (a || b) ≡ is_good (cond a (Good (Ack (get_or s 4 0))) (cond b (Good (Status (status_in s))) (Refused 8)))
+    by : (a b : Bool) → (a || b) ≡ is_good (cond a (Ok (Ack (get_or s 4 0))) (cond b (Ok (Status (status_in s))) (Err NotGood)))
     by true b = refl
     by false true = refl
     by false false = refl

@@ -3,7 +3,7 @@
 
 ghost use Rattle.rules.specs.Answers.{Reads};
 
-use rules::{COMMANDS, MESSAGES, NO_FAMILY, REPLIES, Reading, SENTENCES};
+use rules::{COMMANDS, MESSAGES, REPLIES, Reading, Refusal, SENTENCES};
 
 // The whole of the bytes is one good frame of the family, or it is refused: 1 where there is no such
 // family, else 8.
@@ -16,6 +16,6 @@ pub fn read_frame(family: u8, bytes: &[u8]) -> Reading
         SENTENCES => alpha::read_sentence(bytes),
         COMMANDS => spe::read_command(bytes),
         MESSAGES => kpa::read_message(bytes),
-        _ => Reading::Refused(NO_FAMILY),
+        _ => Err(Refusal::NoFamily),
     }
 }

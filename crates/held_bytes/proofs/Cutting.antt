@@ -9,7 +9,7 @@ use lib.ListN.{length, take, drop, length-drop, take-append-drop}
 use lib.Seq.{length-take-le}
 use Rattle.rules.specs.Bytes.{part}
 use Rattle.stream_rules.specs.Heads.{longest, head}
-use Rattle.stream_rules.specs.Rule.{Look, ready, waiting, look, by_look, Call, gives, wants}
+use Rattle.stream_rules.specs.Rule.{Look, ready, waiting, look, by_look, Call, gives, wants, call}
 use Rattle.stream_laws.specs.Settled.{reach}
 use Rattle.stream_laws.proofs.Lists.{whole_rest}
 use Rattle.stream_laws.proofs.Looks.{OpenFirst, look_waiting}
@@ -20,7 +20,6 @@ use Rattle.stream_laws.proofs.Jump.{Jump, jump, taken_by, drop_take}
 use Rattle.search.specs.Sought.{sought_in}
 use Rattle.search.specs.declared.Hit.{Hit}
 use Rattle.search.specs.declared.Sought.TheVariants.{Ready, Waiting}
-use Rattle.held_bytes.specs.Moves.{call_on}
 
 module _ (family : ℕ) (work : List ℕ) where
   -- what a search answers is what a look finds
@@ -52,7 +51,7 @@ module _ (family : ℕ) (work : List ℕ) where
 
 -- What a call on the bytes says, which keeps a part of them.
 pub record Cuts (family : ℕ) (work : List ℕ) (count from to : ℕ) (says : List ℕ → Call) : Type 0 where
-  pub is : call_on family work count ≡ says (part from (to - from) work)
+  pub is : call (head family) (take count work) (drop count work) ≡ says (part from (to - from) work)
   pub order : from ≤ to
   pub within : to ≤ length work
   pub short : to - from < longest family
@@ -75,7 +74,7 @@ module _ (family : ℕ) (work : List ℕ) (count : ℕ) (there : count ≤ lengt
       let found = waits family work at e in
       let rest = found.0 in
       let here : look (head family) (held ++ others) ≡ waiting at rest = ap (look (head family)) both ∙ found.1 in
-      let called : call_on family work count ≡ wants (length others) at rest = wanted_call (head family) (longest family) (facts family) held others at rest here in
+      let called : call (head family) held others ≡ wants (length others) at rest = wanted_call (head family) (longest family) (facts family) held others at rest here in
       let open_start : OpenFirst (head family) work at rest = look_waiting (head family) work at rest found.1 in
       let kept : rest ≡ part at (length work - at) work = open_start.rest ∙ sym (whole_rest work at) in
       let short = (piece_keeps (facts family) held others (length others) at rest called).1 in

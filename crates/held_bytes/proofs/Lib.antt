@@ -14,3 +14,4 @@ pub mod Cutting
 pub mod Onward
 pub mod Opening
 pub mod PlacesSingle
+pub mod Serving

@@ -1,23 +1,18 @@
 -- The promises of the functions that alter the held places leave one content: two that meet a promise are equal, for each names the
 -- content. Assumes nothing.
 use Prim.Native.Nat.{ℕ}
-use mathlib.Core.Path.{◌≡◌, sym, ◌∙◌}
+use mathlib.Core.Path.{◌≡◌}
 use mathlib.Core.List.{List, []}
-use lib.ListN.{length}
+use Rattle.frame_laws.proofs.Single.{one_answer}
 use Rattle.rules.specs.Bytes.{part}
 use Rattle.stream_rules.specs.Streams.{filled}
 use Rattle.pens.specs.Pens.{laid}
-use Rattle.held_bytes.specs.Held.{LeftWith}
 
-one_content : (places content x y : List ℕ) → length places ≡ 133 → LeftWith places content x → LeftWith places content y → x ≡ y
-one_content places content x y long p q = p long ∙ sym (q long)
+pub lay_single : (places : List ℕ) (at : ℕ) (few x y : List ℕ) → x ≡ laid at few places → y ≡ laid at few places → x ≡ y
+lay_single places at few x y p q = one_answer p q
 
-pub lay_single : (places : List ℕ) (at : ℕ) (few x y : List ℕ) → length places ≡ 133 → LeftWith places (laid at few places) x → LeftWith places (laid at few places) y → x ≡ y
-lay_single places at few x y long p q = one_content places _ x y long p q
+pub keep_part_single : (places : List ℕ) (a n : ℕ) (x y : List ℕ) → x ≡ filled (part a n places) → y ≡ filled (part a n places) → x ≡ y
+keep_part_single places a n x y p q = one_answer p q
 
-pub keep_part_single : (places : List ℕ) (a n : ℕ) (x y : List ℕ) → length places ≡ 133
-    → LeftWith places (filled (part a n places)) x → LeftWith places (filled (part a n places)) y → x ≡ y
-keep_part_single places a n x y long p q = one_content places _ x y long p q
-
-pub clear_single : (places x y : List ℕ) → length places ≡ 133 → LeftWith places (filled []) x → LeftWith places (filled []) y → x ≡ y
-clear_single places x y long p q = one_content places _ x y long p q
+pub clear_single : (x y : List ℕ) → x ≡ filled [] → y ≡ filled [] → x ≡ y
+clear_single x y p q = one_answer p q

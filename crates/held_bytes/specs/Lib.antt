@@ -1,4 +1,2 @@
--- What a function leaves in the held places of a stream reader.
-pub mod Held
+-- What a call leaves of a lent stream reader.
 pub mod Moves
-pub mod Places

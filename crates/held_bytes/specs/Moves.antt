@@ -1,68 +1,65 @@
--- What a call on a reader's parts leaves beside the held places, in the words of the rules.
-use Rattle.std.specs.Prelude.{ℕ, ◌+◌, ◌^◌, ◌≤◌, ◌<◌, ◌≡◌, List, [], length, take, drop}
+-- What a call leaves of a lent reader, in the words of the rules.
+use Rattle.std.specs.Prelude.{ℕ, ◌+◌, ◌^◌, ◌≤◌, ◌<◌, cond, not, leb, List, length, take, drop, Result, Ok, Err}
+use Rattle.rules.specs.Answers.{is_family}
+use Rattle.rules.specs.declared.Refusal.{Refusal}
+use Rattle.rules.specs.declared.Refusal.TheVariants.{NoFamily, HoldsTooMuch}
 use Rattle.rules.specs.declared.Frame.{Frame}
-use Rattle.stream_rules.specs.Heads.{longest, head, at_close}
-use Rattle.stream_rules.specs.Rule.{look, Call, gives, wants, call}
-use Rattle.stream_rules.specs.Streams.{wrap, place_count, open_call, closed_call}
-use Rattle.stream_rules.specs.declared.Answer.TheVariants.{Ready, More, Done}
-use Rattle.held_bytes.specs.Held.{LentBytes, ReadBytes}
-use Rattle.held_bytes.specs.declared.moves.Moved.{Moved}
-use Rattle.held_bytes.specs.Places.{reader_at, fed_at}
+use Rattle.stream_rules.specs.Heads.{longest, head}
+use Rattle.stream_rules.specs.Rule.{Call, gives, wants, call}
+use Rattle.stream_rules.specs.Streams.{wrap, holds}
+use Rattle.stream_rules.specs.declared.Reader.{Reader}
+use Rattle.stream_rules.specs.declared.Progress.{Progress}
+use Rattle.stream_rules.specs.declared.Progress.TheVariants.{Done, More, Ready}
+use Rattle.stream_rules.specs.declared.Fed.{Fed}
+
+-- A call that left this reader and this answer gives both back.
+abbrev pub fed_at : Reader → Result Progress Refusal → Fed
+fed_at r a = record { reader = r; answer = a }
+
+-- a reader with its places as they are, and so many of them used
+abbrev pub counted_on : Reader → ℕ → ℕ → ℕ → Reader
+counted_on r left at skipped = record { family = r.family; closed = r.closed; count = left; held = r.held; at = wrap at; skipped = wrap skipped }
 
 -- A frame is handed out, behind so many bytes that were passed, and so many are left.
-abbrev pub handed_out : ℕ → ℕ → ℕ → ℕ → ℕ → Frame → ℕ → Moved
-handed_out at skipped taken passed length f left = record {
-  count = left;
-  at = wrap (at + (passed + length));
-  skipped = 0;
-  answer = Ready (record {
+abbrev pub handed_out : Reader → ℕ → ℕ → ℕ → Frame → ℕ → Fed
+handed_out r taken passed length f left = record {
+  reader = counted_on r left (r.at + (passed + length)) 0;
+  answer = Ok (Ready (record {
     taken = taken;
-    start = wrap (at + passed);
-    skipped = wrap (skipped + passed);
+    start = wrap (r.at + passed);
+    skipped = wrap (r.skipped + passed);
     length = length;
     frame = f;
-  });
+  }));
 }
 
 -- More is wanted.
-abbrev pub wanting : ℕ → ℕ → ℕ → ℕ → ℕ → Moved
-wanting at skipped taken passed left = record { count = left; at = wrap (at + passed); skipped = wrap (skipped + passed); answer = More taken }
+abbrev pub wanting : Reader → ℕ → ℕ → ℕ → Fed
+wanting r taken passed left = record { reader = counted_on r left (r.at + passed) (r.skipped + passed); answer = Ok (More taken) }
 
 -- Done, with these bytes dropped.
-abbrev pub done_by : ℕ → ℕ → ℕ → Moved
-done_by at skipped dropped = record { count = 0; at = wrap (at + dropped); skipped = wrap (skipped + dropped); answer = Done 0 }
+abbrev pub done_by : Reader → ℕ → Fed
+done_by r dropped = record { reader = counted_on r 0 (r.at + dropped) (r.skipped + dropped); answer = Ok (Done 0) }
 
--- the call on a buffer whose first bytes were held
-abbrev pub call_on : ℕ → List ℕ → ℕ → Call
-call_on family work count = call (head family) (take count work) (drop count work)
+-- the call on a buffer whose first bytes are those held
+abbrev pub call_on : Reader → List ℕ → Call
+call_on r work = call (head r.family) (take r.count work) (drop r.count work)
 
 -- a call behind t bytes that were taken before it
 abbrev pub later : ℕ → Call → Call
 later t (gives taken k n f kept) = gives (t + taken) k n f kept
 later t (wants taken k kept) = wants (t + taken) k kept
 
--- What is left is that of this call on an open reader at a place, which has skipped some bytes, whatever its flag. (Of
--- what it held only the call speaks.)
-abbrev pub Opens : ℕ → ℕ → ℕ → Call → List ℕ → Moved → Type 0
-Opens family at skipped c left m = (closed : ℕ) → fed_at family closed left m ≡ open_call (reader_at family closed 0 [] at skipped) c
+-- Refusal 1, then 6, of a reader that no call serves.
+abbrev pub served : Reader → Result Unit Refusal
+served r = cond (not (is_family r.family)) (Err NoFamily) (cond (not (leb r.count (holds r.family))) (Err HoldsTooMuch) (Ok tt))
 
--- The same of a call on bytes that are offered to a reader whose places are lent.
-abbrev pub OpensLent : ℕ → LentBytes → ℕ → ℕ → ℕ → ReadBytes → Moved → Type 0
-OpensLent family held count at skipped offered m =
-    Opens family at skipped (call (head family) (take count held.entry.now) offered.entry.now) held.exit.now m
+-- The reader holds no more than one of its family may.
+abbrev pub MayHold : Reader → Type 0
+MayHold r = r.count < longest r.family
 
--- A reader of the family may hold so many bytes, and the places are as many as their type says.
-pub record MayHold (family count : ℕ) (held : List ℕ) : Type 0 where
-  pub low : count < longest family
-  pub places : length held ≡ place_count
-
--- Of the bytes so many were held, which a reader of the family may hold; and they can be counted behind those taken before.
-pub record Counted (family count taken : ℕ) (work : List ℕ) : Type 0 where
-  pub there : count ≤ length work
-  pub low : count < longest family
+-- The bytes held are among these, and no more than may be; and they can be counted behind those taken before.
+pub record Counted (r : Reader) (taken : ℕ) (work : List ℕ) : Type 0 where
+  pub there : r.count ≤ length work
+  pub low : MayHold r
   pub fits : taken + length work < 2 ^ 64
-
--- The parts of a closed reader are drained, whatever its flag.
-abbrev pub Drains : ℕ → List ℕ → ℕ → ℕ → ℕ → List ℕ → Moved → Type 0
-Drains family held count at skipped left m =
-    (closed : ℕ) → fed_at family closed left m ≡ closed_call (reader_at family closed count held at skipped) (look (at_close (head family)) (take count held))

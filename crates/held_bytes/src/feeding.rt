@@ -1,66 +1,63 @@
-// A call that offers bytes to a stream reader. The reader comes in its parts, its held places lent, and the call
-// alters these where they stand; on a refusal they are as they were.
-ghost use Rattle.held_bytes.specs.Places.{FeedsPlaces};
-ghost use Rattle.held_bytes.specs.Moves.{MayHold, Drains};
+// A call that offers bytes to a lent stream reader, which is altered where it stands; on a refusal it is as it was.
+ghost use Rattle.std.specs.Prelude.{◌≡◌};
+ghost use Rattle.stream_rules.specs.Heads.{head, at_close};
+ghost use Rattle.stream_rules.specs.Rule.{look};
+ghost use Rattle.stream_rules.specs.Streams.{held_of, closed_call, Feeds};
+ghost use Rattle.held_bytes.specs.Moves.{fed_at, served, MayHold};
 
-use crate::moves::{Moved, done, handed_out, refused};
+use crate::keep_part;
+use crate::moves::{done, hand_out};
 use crate::pieces::advance;
-use crate::{keep_part, places_in};
-use rules::{HOLDS_TOO_MUCH, IS_CLOSED, NO_FAMILY};
-use search::{First, first_good};
+use rules::Refusal;
+use search::first_good;
 use starts::{is_family, longest_frame};
-use stream_rules::PLACES;
+use stream_rules::{Answer, Outcome, PLACES, Reader};
 use texts::text;
 
 // A call on a closed reader: the next frame of what it holds, or done.
-fn drain(family: u8, held: &mut [u8; PLACES], count: usize, at: u32, skipped: u32) -> Moved
-    requires { MayHold family count held.old }
-    ensures { Drains family held.old count at skipped held.new result }
+fn drain(reader: &mut Reader) -> Answer
+    requires { MayHold reader.old }
+    ensures { fed_at reader.new result ≡ closed_call reader.old (look (at_close (head reader.old.family)) (held_of reader.old)) }
 {
-    let bytes = text(held, 0, count);
-    match first_good(family, bytes, 0) {
-        First::At(start, length, frame) => {
-            let behind = start + length;
-            let left = bytes.len() - behind;
-            keep_part(held, behind, left);
-            handed_out(at, skipped, 0, start, length, frame, left)
+    let count = usize::from(reader.count);
+    match first_good(reader.family, text(&reader.held, 0, count), 0) {
+        Some(first) => {
+            let frame = first.frame;
+            let behind = first.start + first.length;
+            let left = count - behind;
+            keep_part(&mut reader.held, behind, left);
+            hand_out(reader, 0, first.start, first.length, frame, left)
         }
-        First::Nothing => {
-            *held = [0u8; PLACES];
-            done(at, skipped, count)
+        None => {
+            reader.held = [0u8; PLACES];
+            done(reader, count)
         }
     }
 }
 
-// A call that offers bytes to a reader that comes in its parts: a frame, or more wanted, or done; refusal 1,
-// then 6, then 5. The held places are lent and altered where they stand.
-pub fn feed_places(
-    family: u8,
-    closed: u8,
-    count: u8,
-    at: u32,
-    skipped: u32,
-    held: &mut [u8; PLACES],
-    offered: &[u8],
-) -> Moved
-    ensures { FeedsPlaces family closed count held.old at skipped offered.now held.new result }
+// Refusal 1, then 6, of a reader that no call serves.
+pub fn served(reader: &Reader) -> Outcome
+    ensures { result ≡ served reader.now }
 {
-    // never: it tells the proof how many places the type has
-    if places_in(held) != PLACES {
-        return refused(count, at, skipped, HOLDS_TOO_MUCH);
+    if !is_family(reader.family) {
+        return Err(Refusal::NoFamily);
     }
-    if !is_family(family) {
-        return refused(count, at, skipped, NO_FAMILY);
+    if longest_frame(reader.family) <= usize::from(reader.count) {
+        return Err(Refusal::HoldsTooMuch);
     }
-    let used = count as usize;
-    if longest_frame(family) <= used {
-        return refused(count, at, skipped, HOLDS_TOO_MUCH);
+    Ok(())
+}
+
+// A call that offers bytes: a frame, or more wanted, or done; refusal 1, then 6, then 5.
+pub fn feed(reader: &mut Reader, offered: &[u8]) -> Answer
+    ensures { Feeds reader.old offered.now (fed_at reader.new result) }
+{
+    served(reader)?;
+    if reader.closed == 0 {
+        return advance(reader, offered);
     }
-    if closed == 0 {
-        return advance(family, held, used, at, skipped, offered);
+    if !offered.is_empty() {
+        return Err(Refusal::IsClosed);
     }
-    if offered.len() != 0 {
-        return refused(count, at, skipped, IS_CLOSED);
-    }
-    drain(family, held, used, at, skipped)
+    drain(reader)
 }

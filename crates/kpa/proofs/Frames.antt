@@ -2,8 +2,11 @@
 -- and what makes one.
 -- Assumes nothing.
 use Prim.Native.Nat.{ℕ, suc, ◌+◌, ◌-◌, ◌≤◌}
-use mathlib.Core.Path.{◌≡◌, sym, ap, ap₂, ◌∙◌}
-use mathlib.Core.Bool.{true, false, and-true}
+use Rattle.rules.specs.declared.Refusal.TheVariants.{NotGood}
+use Rattle.std.specs.Prelude.{Err}
+use Rattle.std.specs.List.{list_all}
+use mathlib.Core.Path.{◌≡◌, refl, sym, ap, ap₂, ◌∙◌}
+use mathlib.Core.Bool.{Bool, true, false, ◌&&◌, and-true}
 use mathlib.Core.List.{List, [], ◌∷◌, ◌++◌}
 use mathlib.Core.Logic.{⊎_elim}
 use native.Mathlib.Omega.{arith}
@@ -11,11 +14,16 @@ use lib.ListN.{length, drop, get_or, length-drop, take-append-drop}
 use lib.Seq.{length-take-le, drop-drop, get_or_at, get_or-drop, get_or-take}
 use Rattle.rules.specs.Bytes.{every, first, part}
 use Rattle.rules.specs.Messages.{is_body_byte, is_letter, body_of, message_frame, is_body, is_message}
-use Rattle.rules.specs.Answers.{not_good, read_body, read_family4}
-use Rattle.rules.specs.declared.Reading.TheVariants.{Refused}
+use Rattle.rules.specs.Answers.{read_body, read_family4}
 use Rattle.frame_laws.proofs.Bytes.{tests, answer, between_bounds, bounds_between, eq_same}
 use Rattle.frame_laws.proofs.Messages.{message-frame}
 use Rattle.texts.proofs.Steps.{at as from_place, done}
+
+-- The library's word for a test of each is the rules' `every`.
+pub every_all : (test : ℕ → Bool) (bs : List ℕ) → list_all test bs ≡ every test bs
+unfolding every
+every_all test [] = refl
+every_all test (b ∷ bs) = ap (λ (e : Bool). test b && e) (every_all test bs)
 
 -- What a message has.
 pub record Framed (bs : List ℕ) : Type 0 where
@@ -77,7 +85,7 @@ module _ (bs : List ℕ) where
         rw e
 
   -- A message says what its body says.
-  pub no_message : is_message bs ≡ false → Refused not_good ≡ read_family4 bs
+  pub no_message : is_message bs ≡ false → Err NotGood ≡ read_family4 bs
   unfolding read_family4
   no_message e = rw e
 

@@ -1,11 +1,10 @@
 -- The letters that a body begins with, as far as a number holds them, and the four bytes of such a number.
-use Rattle.std.specs.Prelude.{ℕ, ◌+◌, ◌/◌, ◌%◌, ◌^◌, min, List, [], ◌∷◌, length, take}
+use Rattle.std.specs.Prelude.{ℕ, ◌/◌, ◌%◌, ◌^◌, cond, leb, List, [], ◌∷◌, length, Option, Some, None}
 use Rattle.rules.specs.Messages.{letter_run, letters_in, word}
-use Rattle.kpa.specs.declared.letters.Lead.{Lead}
 
--- the letters of a body: how many, counted to one more than a number holds; and the first of them as a number
-unfoldable pub lead_of : List ℕ → Lead
-lead_of body = record { count = min (length (letter_run body)) (4 + 1); word = word (take 4 (letters_in body)) }
+-- the letters of a body as a number, where it holds them all
+unfoldable pub lead_of : List ℕ → Option ℕ
+lead_of body = cond (leb (length (letter_run body)) 4) (Some (word (letters_in body))) None
 
 -- the four bytes of a number of 32 bits, the highest first
 abbrev pub word_bytes : ℕ → List ℕ

@@ -1,111 +1,90 @@
 // What stands behind the listed letters of a message: nothing in a question; in a response a number, a version, or a date
 // and a time.
-ghost use Rattle.std.specs.Prelude.{◌≡◌, true, ◌&&◌, ◌+◌, ◌*◌, ◌≤◌, eqb, length, get_or};
-ghost use Rattle.rules.specs.Bytes.{every, part};
-ghost use Rattle.rules.specs.Numbers.{is_digit};
-ghost use Rattle.rules.specs.Messages.{are_pairs, pair_at, clock_marks, clock_of};
+ghost use Rattle.std.specs.Prelude.{◌≡◌, ◌*◌, ◌≤◌, length};
+ghost use Rattle.rules.specs.Bytes.{part};
+ghost use Rattle.texts.specs.Numbers.{digits_in};
+ghost use Rattle.kpa.specs.Pairs.{PairsIn};
 ghost use Rattle.rules.specs.Answers.{read_number, read_version, read_clock, read_tune};
 ghost use Rattle.rules.specs.declared.Frame.TheVariants.{Message as FrameOf};
 ghost use Rattle.rules.specs.declared.Message.TheVariants.{Question};
-ghost use Rattle.rules.specs.declared.Reading.TheVariants.{Good};
 
 use records::clock_in_range;
-use rules::{Clock, Frame, Message, NOT_GOOD, Reading};
+use rules::{Clock, Frame, Message, Reading, Refusal};
 use texts::{digits, text};
 
 // A question.
 fn question(letters: u32) -> Reading
-    ensures { result ≡ Good (FrameOf (Question letters)) }
+    ensures { result ≡ Ok (FrameOf (Question letters)) }
 {
-    Reading::Good(Frame::Message(Message::Question(letters)))
+    Ok(Frame::Message(Message::Question(letters)))
 }
 
 // A number of so many digits and up to a limit, or a question.
-#[tactic(auto, using(crate::proofs::Responses::asked, crate::proofs::Responses::refused, crate::proofs::Responses::accepted, crate::proofs::Responses::digits_good, crate::proofs::Responses::digits_count), unfolding(rules::specs::Messages::is_number))]
+#[tactic(auto, using(crate::proofs::Responses::asked, crate::proofs::Responses::refused, crate::proofs::Responses::accepted, crate::proofs::Responses::digits_some, crate::proofs::Responses::digits_none), unfolding(rules::specs::Messages::is_number))]
 pub(crate) fn read_number(letters: u32, width: usize, limit: u32, t: &[u8]) -> Reading
     requires { width ≤ 9 }
     ensures { result ≡ read_number letters width limit t.now }
 {
-    if t.len() == 0 {
+    if t.is_empty() {
         return question(letters);
     }
     if t.len() != width {
-        return Reading::Refused(NOT_GOOD);
+        return Err(Refusal::NotGood);
     }
-    let number = digits(t);
-    if !number.good {
-        return Reading::Refused(NOT_GOOD);
-    }
-    let n = number.count;
+    let Some(n) = digits(t) else {
+        return Err(Refusal::NotGood);
+    };
     if limit < n {
-        return Reading::Refused(NOT_GOOD);
+        return Err(Refusal::NotGood);
     }
-    Reading::Good(Frame::Message(Message::Number(letters, n)))
+    Ok(Frame::Message(Message::Number(letters, n)))
 }
 
-// Whether two bytes from a place on are digits, and a mark stands behind them.
-#[tactic(auto, using(crate::proofs::Responses::pair_good))]
-fn is_pair(t: &[u8], at: usize, mark: u8) -> bool
-    requires { at + 3 ≤ length t.now }
-    ensures { result ≡ (every is_digit (part at 2 t.now) && eqb (get_or t.now (at + 2) 0) mark) }
+// How many pairs the longest text of them has: a date and a time.
+const MOST_PAIRS: usize = 6;
+
+// The pair of digits at a place, as a number. It is below 100, so `as` is proved to lose nothing.
+#[tactic(auto, using(crate::proofs::Responses::pair_small))]
+fn pair_at(t: &[u8], k: usize) -> Option<u8>
+    requires { k ≤ 5 }
+    ensures { result ≡ digits_in (part (3 * k) 2 t.now) }
 {
-    digits(text(t, at, 2)).good & (t[at + 2] == mark)
+    let n = digits(text(t, 3 * k, 2))?;
+    Some(n as u8)
 }
 
-// Whether a text is pairs of digits with these marks between them.
-fn are_pairs(marks: &[u8], t: &[u8]) -> bool
+// The numbers of a text that is pairs of digits with these marks between them; the places behind them hold zeros. They are as many
+// for each text, and not a parameter, so that the archive has this once (docs/TARGETS.md).
+fn pairs_of(marks: &[u8], t: &[u8]) -> Option<[u8; MOST_PAIRS]>
     requires { length marks.now ≤ 5 }
-    ensures { result ≡ are_pairs marks.now t.now }
+    ensures { PairsIn marks.now t.now result }
 {
     if t.len() != 3 * marks.len() + 2 {
-        return false;
+        return None;
     }
-    let mut k = 0;
-    while k < marks.len() {
-        if !is_pair(t, 3 * k, marks[k]) {
-            return false;
+    let mut numbers = [0; MOST_PAIRS];
+    for (k, mark) in marks.iter().enumerate() {
+        if t[3 * k + 2] != *mark {
+            return None;
         }
-        k += 1;
+        numbers[k] = pair_at(t, k)?;
     }
-    digits(text(t, 3 * k, 2)).good
-}
-
-// The pair of digits at a place, as a number.
-#[tactic(auto, using(crate::proofs::Responses::pair_small, crate::proofs::Responses::pair_count))]
-fn pair_at(t: &[u8], k: usize) -> u8
-    requires { k ≤ 5 }
-    ensures { every is_digit (part (3 * k) 2 t.now) ≡ true → result ≡ pair_at t.now k }
-{
-    digits(text(t, 3 * k, 2)).count as u8
+    numbers[marks.len()] = pair_at(t, marks.len())?;
+    Some(numbers)
 }
 
 // A version, or a question.
-#[tactic(auto, using(crate::proofs::Responses::asked, crate::proofs::Responses::refused))]
+#[tactic(auto, using(crate::proofs::Responses::asked, crate::proofs::Responses::refused, crate::proofs::Responses::accepted))]
 pub(crate) fn read_version(letters: u32, t: &[u8]) -> Reading
     ensures { result ≡ read_version letters t.now }
 {
-    if t.len() == 0 {
+    if t.is_empty() {
         return question(letters);
     }
-    if !are_pairs(b".", t) {
-        return Reading::Refused(NOT_GOOD);
-    }
-    Reading::Good(Frame::Message(Message::Version(pair_at(t, 0), pair_at(t, 1))))
-}
-
-// The date and the time of six pairs.
-fn clock_of(t: &[u8]) -> Clock
-    requires { are_pairs clock_marks t.now ≡ true }
-    ensures { result ≡ clock_of t.now }
-{
-    Clock {
-        year: pair_at(t, 0),
-        month: pair_at(t, 1),
-        day: pair_at(t, 2),
-        hour: pair_at(t, 3),
-        minute: pair_at(t, 4),
-        second: pair_at(t, 5),
-    }
+    let Some(pairs) = pairs_of(b".", t) else {
+        return Err(Refusal::NotGood);
+    };
+    Ok(Frame::Message(Message::Version(pairs[0], pairs[1])))
 }
 
 // A real date and a time, or a question.
@@ -113,25 +92,34 @@ fn clock_of(t: &[u8]) -> Clock
 pub(crate) fn read_clock(letters: u32, t: &[u8]) -> Reading
     ensures { result ≡ read_clock letters t.now }
 {
-    if t.len() == 0 {
+    if t.is_empty() {
         return question(letters);
     }
-    if !are_pairs(b"--T::", t) {
-        return Reading::Refused(NOT_GOOD);
-    }
-    let clock = clock_of(t);
+    let Some(pairs) = pairs_of(b"--T::", t) else {
+        return Err(Refusal::NotGood);
+    };
+    let [year, month, day, hour, minute, second] = pairs;
+    let clock = Clock {
+        year,
+        month,
+        day,
+        hour,
+        minute,
+        second,
+    };
     if !clock_in_range(clock) {
-        return Reading::Refused(NOT_GOOD);
+        return Err(Refusal::NotGood);
     }
-    Reading::Good(Frame::Message(Message::Clock(clock)))
+    Ok(Frame::Message(Message::Clock(clock)))
 }
 
 // FT is alone.
+#[tactic(auto, using(crate::proofs::Responses::same_none))]
 pub(crate) fn read_tune(t: &[u8]) -> Reading
     ensures { result ≡ read_tune t.now }
 {
-    if t.len() != 0 {
-        return Reading::Refused(NOT_GOOD);
+    if !t.is_empty() {
+        return Err(Refusal::NotGood);
     }
-    Reading::Good(Frame::Message(Message::Tune))
+    Ok(Frame::Message(Message::Tune))
 }

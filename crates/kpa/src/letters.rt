@@ -1,87 +1,64 @@
 // The letters of a message: the run of them that a body begins with, and letters as numbers, four to each.
-ghost use Rattle.std.specs.Prelude.{◌≡◌, map, ◌≤◌, length};
+ghost use Rattle.std.specs.Prelude.{◌≡◌, map, ◌+◌, ◌*◌, ◌^◌, ◌<◌, ◌≤◌, length};
 ghost use Rattle.rules.specs.Messages.{is_letter, capital, letter_run, letters_in, word, word_at, word_letters, as_letters};
 ghost use Rattle.kpa.specs.Words.{word_bytes, lead_of};
 
 use rules::{Letters, WORD_LETTERS};
 use texts::text;
 
-// Whether b is a letter, in either case.
+// Whether b is a letter, in either case: what std tests, promised in the rule's word (docs/STATEMENTS.md).
 #[tactic(auto, unfolding(rules::specs::Messages::is_letter))]
 pub fn is_letter(b: u8) -> bool
     ensures { result ≡ is_letter b }
 {
-    ((b'A' <= b) & (b <= b'Z')) | ((b'a' <= b) & (b <= b'z'))
+    b.is_ascii_alphabetic()
 }
 
-// The capital of a small letter; any other byte as it is.
+// The number of some letters and one more, as its capital.
 #[tactic(auto, unfolding(rules::specs::Messages::capital))]
-fn capital_of(b: u8) -> u8
-    ensures { result ≡ capital b }
+fn with_letter(word: u32, b: u8) -> u32
+    requires { word < 2 ^ 24 }
+    ensures { result ≡ word * 256 + capital b }
 {
-    if (b'a' <= b) & (b <= b'z') {
-        return b - 32;
-    }
-    b
+    word * 256 + u32::from(b.to_ascii_uppercase())
 }
 
-// The letters that a body begins with: how many, counted to one more than a number holds; and the first of them as a number.
-#[derive(Clone, Copy)]
-pub(crate) struct Lead {
-    pub(crate) count: usize,
-    pub(crate) word: u32,
-}
-
-// Nothing is looked at behind the first letter that a number has no place for.
-pub(crate) fn lead_of(body: &[u8]) -> Lead
+// The letters that a body begins with, as a number, which tells how many they are; None where there are more than it holds.
+// Nothing is looked at behind the first of them that has no place.
+pub(crate) fn lead_of(body: &[u8]) -> Option<u32>
     ensures { result ≡ lead_of body.now }
 {
-    let mut word: u32 = 0;
-    let mut count = 0;
-    while count < body.len() {
-        if !is_letter(body[count]) {
-            break;
+    let mut word = 0;
+    for (count, b) in body.iter().enumerate() {
+        if !is_letter(*b) {
+            return Some(word);
         }
         if count == WORD_LETTERS {
-            return Lead {
-                count: count + 1,
-                word,
-            };
+            return None;
         }
-        word = word * 256 + capital_of(body[count]) as u32;
-        count += 1;
+        word = with_letter(word, *b);
     }
-    Lead { count, word }
+    Some(word)
 }
 
 // How many letters the bytes begin with.
-#[tactic(auto, using(crate::proofs::Steps::ends, crate::proofs::Steps::goes_on, crate::proofs::Steps::no_more))]
 fn letter_run(s: &[u8]) -> usize
     ensures { result ≡ length (letter_run s.now) }
 {
-    let mut n = 0;
-    while n < s.len() {
-        if !is_letter(s[n]) {
-            return n;
-        }
-        n += 1;
-    }
-    n
+    s.iter().position(|b| !is_letter(*b)).unwrap_or(s.len())
 }
 
 // Up to four letters as one number.
-#[tactic(auto, using(crate::proofs::Steps::small, crate::proofs::Steps::grown), unfolding(rules::specs::Messages::word_from))]
+#[tactic(auto, unfolding(rules::specs::Messages::word_from))]
 fn word_of(letters: &[u8]) -> u32
     requires { length letters.now ≤ 4 }
     ensures { result ≡ word (map capital letters.now) }
 {
-    let mut n: u32 = 0;
-    let mut i = 0;
-    while i < letters.len() {
-        n = n * 256 + capital_of(letters[i]) as u32;
-        i += 1;
+    let mut word = 0;
+    for b in letters {
+        word = with_letter(word, *b);
     }
-    n
+    word
 }
 
 // The k-th four of letters as one number.
@@ -119,16 +96,12 @@ pub(crate) fn all_letters(body: &[u8]) -> Letters
     letters_of(&body[..letter_run(body)])
 }
 
-// The four bytes of a number that holds letters: these are the last ones, with zeros in front.
+// The four bytes of a number that holds letters: these are the last ones, with zeros in front. It is what std gives, promised in
+// the words of the letters' laws (docs/STATEMENTS.md).
 pub fn word_bytes(word: u32) -> [u8; 4]
     ensures { result ≡ word_bytes word }
 {
-    [
-        (word / 0x100_0000 % 256) as u8,
-        (word / 0x1_0000 % 256) as u8,
-        (word / 0x100 % 256) as u8,
-        (word % 256) as u8,
-    ]
+    word.to_be_bytes()
 }
 
 // How many letters a number holds.
@@ -136,17 +109,11 @@ pub fn word_bytes(word: u32) -> [u8; 4]
 pub fn word_length(word: u32) -> usize
     ensures { result ≡ length (word_letters word) }
 {
-    if word < 0x100 {
-        if word == 0 {
-            return 0;
-        }
-        return 1;
+    match word {
+        0 => 0,
+        1..=0xFF => 1,
+        0x100..=0xFFFF => 2,
+        0x1_0000..=0xFF_FFFF => 3,
+        _ => 4,
     }
-    if word < 0x1_0000 {
-        return 2;
-    }
-    if word < 0x100_0000 {
-        return 3;
-    }
-    4
 }

@@ -1,2 +1,3 @@
--- What the proofs of the writers share: numbers in their digits.
+-- What the proofs of the writers share: numbers in their digits, and in pairs.
 pub mod Numbers
+pub mod Pairs

@@ -1,9 +1,10 @@
 -- Texts laid into a lent line, one behind the other, and the texts of a number, of bytes and of a refusal.
 use Rattle.std.specs.Prelude.{ℕ, zero, suc, ◌+◌, ◌^◌, ◌≡◌, cond, leb, ltb, length}
-use mathlib.Core.List.{List, [], ◌∷◌, flat_map}
+use mathlib.Core.List.{List, [], ◌∷◌, map}
 use Rattle.rules.specs.Bytes.{ascii}
 use Rattle.rules.specs.Numbers.{with_zeros, hex_digits}
 use Rattle.pens.specs.Pens.{laid}
+use Rattle.lines.specs.declared.Line.{Line}
 
 -- A line that is being written: its bytes, and the place reached. A text that fits is laid there, and one that does not
 -- is left out.
@@ -19,6 +20,10 @@ typed (text ∷ texts) l = typed texts (typed_one text l)
 -- that fitted.
 pub record Types (texts : List (List ℕ)) (line : List ℕ) (at : ℕ) (after : List ℕ) (place : ℕ) : Type 0 where
   pub leaves : (after, place) ≡ typed texts (line, at)
+
+-- the same of a line with its place
+abbrev pub LineTypes : {N : ℕ} → List (List ℕ) → Line N → Line N → Type 0
+LineTypes texts line after = Types texts line.bytes line.end after.bytes after.end
 
 -- n in the fewest of up to w digits: no leading zero except as the only digit
 unfoldable pub fewest_digits : ℕ → ℕ → List ℕ
@@ -36,7 +41,7 @@ spaced_texts n = ascii " " ∷ decimal_text n ∷ []
 
 -- bytes as hexadecimal digits, two for each, with nothing between
 abbrev pub hex_texts : List ℕ → List (List ℕ)
-hex_texts bytes = flat_map (λ (b : ℕ). hex_digits b ∷ []) bytes
+hex_texts bytes = map hex_digits bytes
 
 abbrev pub refused_texts : ℕ → List (List ℕ)
 refused_texts n = ascii "refused" ∷ spaced_texts n

@@ -1,93 +1,107 @@
-// Lines of text, for the programs. Each function but the last three lays text into a lent line at a
-// place and gives the place behind it; what has no room is left out. The last three print: what is
-// printed is the line, and of the printing nothing is promised.
+// Lines of text, for the programs. A line is lent to each text that is laid into it, at the place reached so far; what
+// has no room is left out. A line is printed as it stands, and of the printing nothing is promised.
 #![tactic(auto)]
 
 mod input;
 
-ghost use Rattle.std.specs.Prelude.{[], ◌∷◌};
+ghost use Rattle.std.specs.Prelude.{◌≡◌, [], ◌∷◌, length, replicate};
 ghost use Rattle.rules.specs.Numbers.{hex_digits};
-ghost use Rattle.lines.specs.Lines.{Types, decimal_text, spaced_texts, hex_texts, refused_texts};
+ghost use Rattle.lines.specs.Lines.{LineTypes, decimal_text, spaced_texts, hex_texts, refused_texts};
 
-pub use input::{input_buffer, read_full};
+pub use input::{input_buffer, read_full, read_input};
 
-// The bytes as they are.
-pub fn text(line: &mut [u8], at: usize, what: &[u8]) -> usize
-    ensures { Types (what.now ∷ []) line.old at line.new result }
-{
-    if line.len() < at {
-        return at;
+// A line that is being written: its bytes, and the place where the next text goes.
+#[derive(Drop)]
+pub struct Line<const N: usize> {
+    pub bytes: [u8; N],
+    pub end: usize,
+}
+
+impl<const N: usize> Line<N> {
+    // A line with nothing on it.
+    pub fn new() -> Self
+        ensures zeros { result.bytes ≡ replicate N 0 }
+        ensures empty { result.end ≡ 0 }
+    {
+        Line {
+            bytes: [0; N],
+            end: 0,
+        }
     }
-    if line.len() - at < what.len() {
-        return at;
+
+    // The bytes as they are.
+    #[tactic(auto, using(crate::proofs::Typed::one_fits, crate::proofs::Typed::one_not))]
+    pub fn text(&mut self, what: &[u8])
+        ensures { LineTypes (what.now ∷ []) self.old self.new }
+    {
+        if self.end <= N && what.len() <= N - self.end {
+            pens::put_bytes(&mut self.bytes, self.end, what);
+            self.end += what.len();
+        }
     }
-    pens::put_bytes(line, at, what);
-    at + what.len()
-}
 
-// A number in decimal digits.
-pub fn number(line: &mut [u8], at: usize, n: u64) -> usize
-    ensures { Types (decimal_text n ∷ []) line.old at line.new result }
-{
-    let mut digits = [0u8; 20];
-    let k = io::decimal(n, &mut digits);
-    text(line, at, &digits[..k])
-}
-
-// A space and a number.
-pub fn spaced(line: &mut [u8], at: usize, n: u64) -> usize
-    ensures { Types (spaced_texts n) line.old at line.new result }
-{
-    let place = text(line, at, b" ");
-    number(line, place, n)
-}
-
-// A byte as two hexadecimal digits.
-pub fn hex_byte(line: &mut [u8], at: usize, b: u8) -> usize
-    ensures { Types (hex_digits b ∷ []) line.old at line.new result }
-{
-    let mut digits = [0u8; 2];
-    pens::put_hex(&mut digits, 0, b);
-    text(line, at, &digits)
-}
-
-// Bytes as hexadecimal digits, with nothing between.
-pub fn hex(line: &mut [u8], at: usize, bytes: &[u8]) -> usize
-    ensures { Types (hex_texts bytes.now) line.old at line.new result }
-{
-    let mut place = at;
-    let mut i = 0;
-    while i < bytes.len() {
-        place = hex_byte(line, place, bytes[i]);
-        i += 1;
+    // A number in decimal digits.
+    #[tactic(auto, using(crate::proofs::Fewest::fewest))]
+    pub fn number(&mut self, n: u64)
+        ensures { LineTypes (decimal_text n ∷ []) self.old self.new }
+    {
+        let mut digits = [0u8; 20];
+        let k = io::decimal(n, &mut digits);
+        self.text(&digits[..k]);
     }
-    place
-}
 
-// A refusal, by its number.
-pub fn refused(line: &mut [u8], at: usize, n: u8) -> usize
-    ensures { Types (refused_texts n) line.old at line.new result }
-{
-    let place = text(line, at, b"refused");
-    spaced(line, place, n as u64)
+    // A space and a number.
+    pub fn spaced(&mut self, n: u64)
+        ensures { LineTypes (spaced_texts n) self.old self.new }
+    {
+        self.text(b" ");
+        self.number(n);
+    }
+
+    // A byte as two hexadecimal digits.
+    #[tactic(auto, unfolding(pens::specs::Pens::laid))]
+    pub fn hex_byte(&mut self, b: u8)
+        ensures { LineTypes (hex_digits b ∷ []) self.old self.new }
+    {
+        let mut digits = [0u8; 2];
+        pens::put_hex(&mut digits, 0, b);
+        self.text(&digits);
+    }
+
+    // Bytes as hexadecimal digits, with nothing between.
+    pub fn hex(&mut self, bytes: &[u8])
+        ensures { LineTypes (hex_texts bytes.now) self.old self.new }
+    {
+        for b in bytes {
+            self.hex_byte(*b);
+        }
+    }
+
+    // A refusal, by its number.
+    pub fn refused(&mut self, n: u8)
+        ensures { LineTypes (refused_texts n) self.old self.new }
+    {
+        self.text(b"refused");
+        self.spaced(u64::from(n));
+    }
+
+    // Prints the line up to the place reached, and a line end, in one write.
+    pub fn print(&mut self, rt: &impl Print) -> std::io::Result<()> {
+        self.text(b"\n");
+        rt.write_all(texts::text(&self.bytes, 0, self.end))
+    }
 }
 
 // Prints a text as a line.
 pub fn print_text(rt: &impl Print, what: &[u8]) -> std::io::Result<()> {
-    let mut line = [0u8; 512];
-    let end = text(&mut line, 0, what);
-    print(rt, &mut line, end)
+    let mut line = Line::<512>::new();
+    line.text(what);
+    line.print(rt)
 }
 
 // Prints a refusal as a line.
 pub fn print_refused(rt: &impl Print, n: u8) -> std::io::Result<()> {
-    let mut line = [0u8; 32];
-    let end = refused(&mut line, 0, n);
-    print(rt, &mut line, end)
-}
-
-// Prints the line up to the place, and a line end, in one write.
-pub fn print(rt: &impl Print, line: &mut [u8], at: usize) -> std::io::Result<()> {
-    let end = text(line, at, b"\n");
-    rt.write_all(texts::text(line, 0, end))
+    let mut line = Line::<32>::new();
+    line.refused(n);
+    line.print(rt)
 }

@@ -9,6 +9,7 @@ use native.Mathlib.Numerals.{add-one}
 use native.Mathlib.Omega.{arith}
 use lib.ListN.{length, take, drop, get_or, set, length-set, length-drop, length-map}
 use lib.Seq.{take_all, get_or-drop, drop-drop}
+use Rattle.std.specs.Prelude.{Some}
 use Rattle.rules.specs.declared.Frame.{Frame}
 use Rattle.stream_rules.specs.Heads.{shortest, Head, wait, bad, good, head}
 use Rattle.stream_rules.specs.Rule.{Found, rule, by_head}
@@ -79,9 +80,12 @@ module _ (family : ℕ) (bs out₀ out : List ℕ) (at n : ℕ) (filled : Filled
       (λ j q. no_length family (drop (at + j) bs) (p.none (at + j) (omega arith) (omega (arith, p.on)))))
 
   -- a good frame here: there is one more start than n, and it is this one
-  module _ (long : ℕ) (e : long ≡ good_length family (drop at bs)) (some_bytes : long ≡ 0 → ⊥) where
+  module _ (long : ℕ) (e : Some long ≡ good_length family (drop at bs)) where
     here : (f : Frame) × (head family (drop at bs) ≡ good long f)
-    here = some_length family (drop at bs) long e some_bytes
+    here = some_length family (drop at bs) long e
+
+    pub some_bytes : 0 < long
+    some_bytes = (good_head family (drop at bs) long here.0 here.1).some
 
     pub inside : at + long ≤ length bs
     inside = omega (arith, (good_head family (drop at bs) long here.0 here.1).there, length-drop at bs, filled.within)
@@ -102,7 +106,7 @@ module _ (family : ℕ) (bs out₀ out : List ℕ) (at n : ℕ) (filled : Filled
     pub filled_in : Filled family bs out₀ (set out n at) (at + long) (n + 1)
     filled_in = record {
       within = inside;
-      few = omega (arith, filled.few, (good_head family (drop at bs) long here.0 here.1).some);
+      few = omega (arith, filled.few, some_bytes);
       some = omega (arith, one_more);
       come = sym (ap (drop 1) split) ∙ drop-drop 1 n (all family bs);
       front = λ room.

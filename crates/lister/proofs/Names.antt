@@ -2,6 +2,7 @@
 -- sentence starts where they are others.
 -- Assumes nothing.
 use Prim.Native.Nat.{ℕ, ◌+◌, ◌-◌, ◌≤◌, ◌<◌}
+use Rattle.std.specs.Prelude.{Ok}
 use Prim.Native.Char.{code}
 use mathlib.Core.Path.{◌≡◌, sym, ap, ◌∙◌}
 use mathlib.Core.Bool.{true}
@@ -14,15 +15,14 @@ use Rattle.rules.specs.Sentences.{is_payload, is_sentence, payload_of}
 use Rattle.rules.specs.Numbers.{is_digit}
 use Rattle.rules.specs.Answers.{read_one, read_family2}
 use Rattle.rules.specs.declared.Frame.{Frame}
-use Rattle.rules.specs.declared.Reading.TheVariants.{Good}
 use Rattle.frame_laws.proofs.Bytes.{tests, same_eq, between_bounds}
+use Rattle.alpha.proofs.Bounds.{each}
 use Rattle.stream_rules.specs.Heads.{head}
-use Rattle.alpha.proofs.Rows.{each}
 use Rattle.stream_laws.proofs.Course.{passed}
 use Rattle.stream_laws.proofs.Heads.{good_head}
 use Rattle.stream_laws.proofs.Starts.{NotGood}
 
-module _ (bs : List ℕ) (n : ℕ) (f : Frame) (read : read_one 2 (take n bs) ≡ Good f) where
+module _ (bs : List ℕ) (n : ℕ) (f : Frame) (read : read_one 2 (take n bs) ≡ Ok f) where
   abbrev payload : List ℕ
   payload = payload_of (take n bs)
 

@@ -9,6 +9,7 @@ use native.Mathlib.Decide.{ℕ_discrete, dec_lt}
 use native.Mathlib.Omega.{arith}
 use lib.ListN.{length, drop, get_or, length-drop}
 use lib.Seq.{drop-drop, get_or-drop}
+use Rattle.std.specs.Prelude.{None}
 use Rattle.stream_rules.specs.Heads.{is_spe, brackets_of, mark_of, head}
 use Rattle.stream_laws.proofs.Bracketed.{Bracketed}
 use Rattle.stream_laws.proofs.Runs.{run, run_within}
@@ -32,7 +33,7 @@ passes family s at k there none = record {
 }
 
 -- No frame here, and none at the next starts: none at all.
-and_behind : (family : ℕ) (s : List ℕ) (at k : ℕ) → 0 ≡ good_length family (drop at s)
+and_behind : (family : ℕ) (s : List ℕ) (at k : ℕ) → None ≡ good_length family (drop at s)
     → ((j : ℕ) → 0 < j → j < k → NotGood (head family (drop j (drop at s)))) → (j : ℕ) → j < k → NotGood (head family (drop (at + j) s))
 and_behind family s at k none behind j p =
     elim (ℕ_discrete j 0) [
@@ -41,7 +42,7 @@ and_behind family s at k none behind j p =
     ]
 
 -- a start with no frame: none here;
-pub over_none : (family : ℕ) (s : List ℕ) (at : ℕ) → at < length s → 0 ≡ good_length family (drop at s) → Passes family s at (at + 1)
+pub over_none : (family : ℕ) (s : List ℕ) (at : ℕ) → at < length s → None ≡ good_length family (drop at s) → Passes family s at (at + 1)
 over_none family s at there none = passes family s at 1 (omega arith) (and_behind family s at 1 none (λ j q p. absurd (omega arith)))
 
 -- a mark in a count's place: none here;
@@ -52,7 +53,7 @@ over_mark family spe s at there e =
 
 -- none there: neither here, where no frame stands, nor at the next three;
 pub over_four : (family : ℕ) (spe : is_spe family ≡ true) (s : List ℕ) (at : ℕ) → at + 4 ≤ length s → (get_or s (at + 3) 0 ≡ mark_of family → ⊥)
-    → 0 ≡ good_length family (drop at s) → Passes family s at (at + 4)
+    → None ≡ good_length family (drop at s) → Passes family s at (at + 4)
 over_four family spe s at there other none =
     passes family s at 4 there
     (and_behind family s at 4 none
@@ -64,7 +65,7 @@ module _ (family : ℕ) (is : Bracketed family) (s : List ℕ) (at : ℕ) (there
   over_byte other = over_none family s at there (length_none family (drop at s) (bad_not_good (unopened family is s at there other).0))
 
   -- and an opening byte with no frame: none here and in the run behind it.
-  pub over_run : (n : ℕ) → n ≤ run (brackets_of family) (drop at s) → 0 ≡ good_length family (drop at s) → Passes family s at (at + (n + 1))
+  pub over_run : (n : ℕ) → n ≤ run (brackets_of family) (drop at s) → None ≡ good_length family (drop at s) → Passes family s at (at + (n + 1))
   over_run n within none =
       passes family s at (n + 1)
       (omega (arith, run_within (brackets_of family) (drop 1 (drop at s)), length-drop 1 (drop at s), length-drop at s))

@@ -1,18 +1,25 @@
 -- How long the good frame at the head of some bytes is, and which starts a walk passes over.
-use Rattle.std.specs.Prelude.{ℕ, min, ◌+◌, ◌≤◌, ◌<◌, ◌≡◌, true, false, List, length, drop, get_or}
+use Rattle.std.specs.Prelude.{ℕ, min, ◌+◌, ◌≤◌, ◌<◌, ◌≡◌, true, false, List, length, drop, get_or, Option, Some, None}
 use Rattle.rules.specs.Answers.{is_family}
 use Rattle.stream_rules.specs.Heads.{is_spe, brackets_of, around, inner_run, head}
 use Rattle.stream_rules.specs.Rule.{by_head}
+use Rattle.lister.specs.declared.steps.Step as StepType
+use Rattle.lister.specs.declared.steps.Step.TheVariants.{Frame, Over}
 
--- how long the good frame at the head is; 0 where there is none
-abbrev pub good_length : ℕ → List ℕ → ℕ
-good_length family bs = by_head (head family bs) 0 0 (λ n f. n)
+-- how long the good frame at the head is
+abbrev pub good_length : ℕ → List ℕ → Option ℕ
+good_length family bs = by_head (head family bs) None None (λ n f. Some n)
 
 -- no frame stands at the starts from a place on and before another
 pub record Passes (family : ℕ) (bs : List ℕ) (from to : ℕ) : Type 0 where
   pub on : from ≤ to
   pub within : to ≤ length bs
-  pub none : (j : ℕ) → from ≤ j → j < to → 0 ≡ good_length family (drop j bs)
+  pub none : (j : ℕ) → from ≤ j → j < to → None ≡ good_length family (drop j bs)
+
+-- what a step at a place comes to: the length of the good frame there, or the next start that may be good
+abbrev pub StepsTo : ℕ → List ℕ → ℕ → StepType.Step → Type 0
+StepsTo family bs at (Frame n) = Some n ≡ good_length family (drop at bs)
+StepsTo family bs at (Over to) = (at < to) × Passes family bs at to
 
 -- a family of brackets
 abbrev pub IsBracketed : ℕ → Type 0

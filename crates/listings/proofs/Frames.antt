@@ -1,6 +1,7 @@
 -- What is found at a frame of the rule, and behind the first frames of a capture: the rule goes on there with the others.
 -- Assumes nothing.
 use Prim.Native.Nat.{ℕ, zero, suc, ◌+◌, ◌-◌, ◌≤◌}
+use Rattle.std.specs.Prelude.{Ok}
 use mathlib.Core.Path.{◌≡◌, refl, sym, ap, ◌∙◌}
 use mathlib.Core.Bool.{true}
 use mathlib.Core.List.{List, [], ◌∷◌, map}
@@ -12,7 +13,6 @@ use lib.Seq.{drop-drop, drop-nil}
 use Rattle.rules.specs.Bytes.{total, part}
 use Rattle.rules.specs.Answers.{read_one, is_family}
 use Rattle.rules.specs.declared.Frame.{Frame}
-use Rattle.rules.specs.declared.Reading.TheVariants.{Good}
 use Rattle.stream_rules.specs.Heads.{good, head, longest, at_close}
 use Rattle.stream_rules.specs.Rule.{Found, rule, Look, ready, waiting, look, by_look}
 use Rattle.stream_rules.specs.Lister.{fits, frame_from}
@@ -55,7 +55,7 @@ module _ (family : ℕ) (bs : List ℕ) where
   pub record Stands (start n : ℕ) (f : Frame) : Type 0 where
     pub inside : start + n ≤ length bs
     pub size : length (part start n bs) ≡ n
-    pub read : read_one family (part start n bs) ≡ Good f
+    pub read : read_one family (part start n bs) ≡ Ok f
 
   pub stands : (start n : ℕ) (f : Frame) → head family (drop start bs) ≡ good n f → Stands start n f
   stands start n f here =

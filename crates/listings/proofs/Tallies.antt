@@ -6,7 +6,7 @@ use mathlib.Core.List.{List, [], ◌∷◌}
 use native.Mathlib.Numerals.{add-one}
 use native.Mathlib.Omega.{arith}
 use borrow.Author.Tests.{leb-true}
-use lib.ListN.{length, take, drop, get_or, length-map}
+use lib.ListN.{length, take, drop, get_or}
 use lib.Seq.{drop-cons, take-length}
 use Rattle.rules.specs.Bytes.{part}
 use Rattle.rules.specs.declared.Frame.TheVariants.{Ack}
@@ -29,9 +29,9 @@ nth fs n p =
     record { frame = get_or fs n any; behind = drop (n + 1) fs; splits = rw (add-one n) (drop-cons fs n any p) }
 
 -- The next frame: where it starts and ends, its line and its bytes; and how far a listing has come with it.
-pub record Next (capture starts : List ℕ) (t : Tally) : Type 0 where
+pub record Next (capture : List ℕ) (start : ℕ) (t : Tally) : Type 0 where
   pub frame : Found
-  pub starts_here : get_or starts t.listed 0 ≡ frame.start
+  pub starts_here : start ≡ frame.start
   pub line : frame_line t.family capture t.listed ≡ line_texts frame
   pub place : frame.start ≡ t.end + frame.skipped
   pub stands : Stands t.family capture frame.start frame.length frame.frame
@@ -41,26 +41,26 @@ pub record Next (capture starts : List ℕ) (t : Tally) : Type 0 where
   pub end : behind_last 0 (take (t.listed + 1) (frames t.family capture)) ≡ frame.start + frame.length
   pub counts : inside (take (t.listed + 1) (frames t.family capture)) ≡ t.inside + frame.length
 
-pub next : (capture starts : List ℕ) (t : Tally) → Onward capture starts t → Next capture starts t
-next capture starts t on =
+pub next : (capture : List ℕ) (start : ℕ) (t : Tally) → Onward capture start t → Next capture start t
+next capture start t on =
     let family = t.family in
     let n = t.listed in
     let fs = frames family capture in
     let ended : t.end ≡ behind_last 0 (take n fs) = ap (λ (x : Tally). x.end) on.reached in
     let bytes : t.inside ≡ inside (take n fs) = ap (λ (x : Tally). x.inside) on.reached in
-    let here = nth fs n (omega (arith, on.there, ap length on.starts_all.all, length-map fs (λ (f : Found). f.start))) in
+    let here = nth fs n on.there in
     let f = here.frame in
     let x = first family capture (behind_last 0 (take n fs)) f here.behind (others family capture n 0 ∙ here.splits) in
     let b = between family capture n 0 (omega arith) in
     record {
       frame = f;
-      starts_here = ap (λ (l : List ℕ). get_or l n 0) on.starts_all.all ∙ told f here.behind (λ (g : Found). g.start) 0 fs n here.splits;
+      starts_here = on.starts ∙ told f here.behind (λ (g : Found). g.start) 0 fs n here.splits;
       line = told f here.behind line_texts [] fs n here.splits;
       place = omega (arith, ended, x.place);
       stands = stands family capture f.start f.length f.frame x.here;
-      given = given family capture f.start f.length f.frame on.starts_all.known on.starts_all.short x.here;
+      given = given family capture f.start f.length f.frame on.known on.short x.here;
       apart = omega (arith, ended, bytes, b.apart);
-      short = leb-true (length capture) longest_capture on.starts_all.short;
+      short = leb-true (length capture) longest_capture on.short;
       end = ap (λ (m : ℕ). behind_last 0 (take m fs)) (add-one n) ∙ end_of_more f here.behind fs n 0 here.splits;
       counts = ap (λ (m : ℕ). inside (take m fs)) (add-one n) ∙ inside_of_more f here.behind fs n here.splits ∙ ap (λ (m : ℕ). m + f.length) (sym bytes);
     }

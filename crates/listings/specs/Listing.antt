@@ -1,12 +1,13 @@
 -- The listing of a capture, over the frames that demand 3's rule finds in it. A line is some texts, one behind the
 -- other.
 use Rattle.std.specs.Prelude.{ℕ, ◌-◌, cond, not, length, get_or}
+use Rattle.rules.specs.Refusals.{no_family, too_long}
 use Prim.Native.Char.{code}
 use mathlib.Core.List.{List, [], ◌∷◌, ◌++◌, map, flat_map}
 use Rattle.rules.specs.Bytes.{ascii, total}
-use Rattle.rules.specs.Answers.{no_family, is_family, kind_of}
+use Rattle.rules.specs.Answers.{is_family, kind_of}
 use Rattle.stream_rules.specs.Rule.{Found}
-use Rattle.stream_rules.specs.Lister.{frames, fits, too_long}
+use Rattle.stream_rules.specs.Lister.{frames, fits}
 use Rattle.lines.specs.Lines.{decimal_text, spaced_texts, refused_texts}
 use Rattle.listings.specs.Kinds.{kind_texts}
 

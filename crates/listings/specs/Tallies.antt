@@ -1,12 +1,12 @@
 -- How far a listing has come: the tally of the frames that it has listed, in the rule's order.
-use Rattle.std.specs.Prelude.{ℕ, ◌+◌, ◌<◌, ◌≡◌, true, List, [], ◌∷◌, length, take}
+use Rattle.std.specs.Prelude.{ℕ, ◌+◌, ◌<◌, ◌≡◌, true, List, [], ◌∷◌, length, take, get_or}
 use Rattle.rules.specs.Answers.{is_family}
 use Rattle.stream_rules.specs.Rule.{Found}
 use Rattle.stream_rules.specs.Lister.{frames, starts_of, fits}
-use Rattle.lines.specs.Lines.{Types}
-use Rattle.listings.specs.Listing.{frame_line, inside, last_texts}
+use Rattle.lines.specs.Lines.{LineTypes}
+use Rattle.lines.specs.declared.Line.{Line}
+use Rattle.listings.specs.Listing.{frame_line, inside}
 use Rattle.listings.specs.declared.table.Tally.{Tally}
-use Rattle.listings.specs.declared.table.Laid.{Laid}
 
 -- the place behind the last of some frames; where there is none, a place that is given
 unfoldable pub behind_last : ℕ → List Found → ℕ
@@ -31,17 +31,15 @@ pub record AllStarts (family : ℕ) (capture starts : List ℕ) : Type 0 where
   pub short : fits capture ≡ true
   pub all : starts ≡ starts_of (frames family capture)
 
--- A tally is right, and another frame is to be listed.
-pub record Onward (capture starts : List ℕ) (t : Tally) : Type 0 where
-  pub starts_all : AllStarts t.family capture starts
+-- A tally is right, and another frame is to be listed, which starts at this place.
+pub record Onward (capture : List ℕ) (start : ℕ) (t : Tally) : Type 0 where
+  pub known : is_family t.family ≡ true
+  pub short : fits capture ≡ true
   pub reached : t ≡ tallied t.family capture t.listed
-  pub there : t.listed < length starts
+  pub there : t.listed < length (frames t.family capture)
+  pub starts : start ≡ get_or (starts_of (frames t.family capture)) t.listed 0
 
 -- The line of that frame is laid, and it is tallied.
-pub record LaysNext (capture : List ℕ) (t : Tally) (line after : List ℕ) (r : Laid) : Type 0 where
-  pub types : Types (frame_line t.family capture t.listed) line 0 after r.at
-  pub further : r.tally ≡ tallied t.family capture (t.listed + 1)
-
--- The last line is laid.
-abbrev pub LaysLast : List ℕ → Tally → List ℕ → List ℕ → ℕ → Type 0
-LaysLast capture t line after place = Types (last_texts t.family capture) line 0 after place
+pub record LaysNext {N : ℕ} (capture : List ℕ) (t : Tally) (line after : Line N) (r : Tally) : Type 0 where
+  pub types : LineTypes (frame_line t.family capture t.listed) line after
+  pub further : r ≡ tallied t.family capture (t.listed + 1)

@@ -5,17 +5,18 @@ ghost use Rattle.listings.specs.Listing.{line_room};
 ghost use Rattle.listings.specs.Tallies.{tallied, all_tallied, AllStarts, Onward};
 
 use crate::table::{Tally, frame_line, heading, last_line};
+use lines::Line;
 use lister::list_frames;
 use std::io;
-use stream_rules::{LONGEST_LIST, Listed};
+use stream_rules::LONGEST_LIST;
 
 const LINE: usize = 128;
 
 // Room for every line of a listing, with its line end.
-fn line_buffer() -> [u8; LINE]
-    ensures { line_room ≡ length result }
+fn new_line() -> Line<LINE>
+    ensures { line_room ≡ length result.bytes }
 {
-    [0; LINE]
+    Line::new()
 }
 
 // Room for as many starts as a capture can have frames.
@@ -29,22 +30,23 @@ fn starts_buffer() -> [u32; LONGEST_LIST]
 pub fn print_listing(rt: &impl Print, family: u8, capture: &[u8]) -> io::Result<()> {
     let mut starts = starts_buffer();
     match list_frames(family, capture, &mut starts) {
-        Listed::Count(n) => {
+        Ok(n) => {
             print_heading(rt)?;
             let tally = print_frames(rt, family, capture, &starts[..n])?;
             print_last(rt, capture, tally)
         }
-        Listed::Refused(n) => lines::print_refused(rt, n),
+        Err(e) => lines::print_refused(rt, u8::from(e)),
     }
 }
 
 fn print_heading(rt: &impl Print) -> io::Result<()> {
-    let mut line = line_buffer();
-    let end = heading(&mut line);
-    lines::print(rt, &mut line, end)
+    let mut line = new_line();
+    heading(&mut line);
+    line.print(rt)
 }
 
 // A line for each frame; gives the tally of all.
+#[tactic(auto, unfolding(crate::specs::Tallies::behind_last, rules::specs::Bytes::total))]
 fn print_frames(rt: &impl Print, family: u8, capture: &[u8], starts: &[u32]) -> io::Result<Tally>
     requires { AllStarts family capture.now starts.now }
     ensures { IfOk result (λ tally. tally ≡ all_tallied family capture.now) }
@@ -55,26 +57,26 @@ fn print_frames(rt: &impl Print, family: u8, capture: &[u8], starts: &[u32]) -> 
         end: 0,
         inside: 0,
     };
-    while tally.listed < starts.len() {
-        tally = print_frame(rt, capture, starts, tally)?;
+    for start in starts {
+        tally = print_frame(rt, capture, *start as usize, tally)?;
     }
     Ok(tally)
 }
 
-fn print_frame(rt: &impl Print, capture: &[u8], starts: &[u32], tally: Tally) -> io::Result<Tally>
-    requires { Onward capture.now starts.now tally }
+fn print_frame(rt: &impl Print, capture: &[u8], start: usize, tally: Tally) -> io::Result<Tally>
+    requires { Onward capture.now start tally }
     ensures { IfOk result (λ next. next ≡ tallied tally.family capture.now (tally.listed + 1)) }
 {
-    let mut line = line_buffer();
-    let laid = frame_line(&mut line, capture, starts, tally);
-    lines::print(rt, &mut line, laid.at)?;
-    Ok(laid.tally)
+    let mut line = new_line();
+    let further = frame_line(&mut line, capture, start, tally);
+    line.print(rt)?;
+    Ok(further)
 }
 
 fn print_last(rt: &impl Print, capture: &[u8], tally: Tally) -> io::Result<()>
     requires { tally ≡ all_tallied tally.family capture.now }
 {
-    let mut line = line_buffer();
-    let end = last_line(&mut line, capture, tally);
-    lines::print(rt, &mut line, end)
+    let mut line = new_line();
+    last_line(&mut line, capture, tally);
+    line.print(rt)
 }

@@ -13,10 +13,11 @@ use native.Mathlib.Omega.{arith}
 use borrow.Author.Tests.{eqb-true, ltb-true, ltb-false, ne_eqb}
 use lib.Arith.{mod-mul, digits_div, digits_mod}
 use lib.Dec.{eqb, ltb}
-use lib.ListN.{length, length-append}
+use lib.ListN.{length, set, length-append}
 use Rattle.rules.specs.Numbers.{with_zeros, with_spaces}
 use Rattle.frame_laws.proofs.Numbers.{ten_pos}
-use Rattle.pens.specs.Pens.{digit_or, digits_or, number_in}
+use Rattle.pens.specs.Pens.{laid, digit_or, digits_or, number_in}
+use Rattle.pens.proofs.Laid.{laid_last}
 
 pub length_digits : (pad w n : ℕ) → length (digits_or pad w n) ≡ w
 unfolding digits_or
@@ -37,6 +38,15 @@ pub last_of_number : (pad w n : ℕ) → 0 < w → number_in pad w n ≡ digits_
 unfolding number_in
 last_of_number pad zero n h = absurd (omega arith)
 last_of_number pad (suc w) n h = rw sub-one
+
+-- the last digit of a number, stored where it belongs, and what is left laid before it
+pub ones_laid : (a pad w n : ℕ) (out : List ℕ) → 0 < w → a + (w - 1) < length out
+    → laid a (digits_or pad (w - 1) (n / 10)) (set out (a + (w - 1)) (code "0" + n % 10)) ≡ laid a (number_in pad w n) out
+ones_laid a pad w n out some room = rw (last_of_number pad w n some) (laid_last a (w - 1) _ _ out (length_digits pad (w - 1) (n / 10)) room)
+
+pub digit_laid : (a pad w n : ℕ) (out : List ℕ) {d : ℕ} → d ≡ digit_or pad n → 0 < w → a + (w - 1) < length out
+    → laid a (digits_or pad (w - 1) (n / 10)) (set out (a + (w - 1)) d) ≡ laid a (digits_or pad w n) out
+digit_laid a pad w n out e some room = rw (e, last_digit pad w n some) (laid_last a (w - 1) _ _ out (length_digits pad (w - 1) (n / 10)) room)
 
 -- one digit less is one power of ten less
 pub tenfold : (w n : ℕ) → n < 10 ^ suc w → n / 10 < 10 ^ w

@@ -10,8 +10,9 @@ use native.Mathlib.Numerals.{add-one}
 use native.Mathlib.Omega.{arith}
 use borrow.Author.Tests.{le-leb, lt-leb, leb-true}
 use lib.Dec.{leb}
-use lib.ListN.{length, take, drop, set, length-append, length-drop, take-append-drop}
+use lib.ListN.{length, take, drop, get_or, set, length-append, length-drop, take-append-drop}
 use lib.Seq.{length-take-le, take_at, drop_at, drop-append-add, take-append-le, take-take, drop-drop, set_split}
+use Rattle.std.proofs.lemmas.List.{take_more}
 use Rattle.rules.specs.Bytes.{part}
 use Rattle.pens.specs.Pens.{laid}
 
@@ -87,3 +88,12 @@ both_ways false e = refl
 pub laid_none : (a : ℕ) (out : List ℕ) → laid a [] out ≡ out
 unfolding laid
 laid_none a out = both_ways (leb (a + 0) (length out)) (rw (append-nil, add-zero, take-append-drop))
+
+-- one byte more behind a row, stored behind the row that is laid
+pub laid_more : (a i : ℕ) (bs out : List ℕ) → i < length bs → a + i < length out → set (laid a (take i bs) out) (a + i) (get_or bs i 0) ≡ laid a (take (i + 1) bs) out
+laid_more a i bs out more room =
+    let size : length (take i bs) ≡ i = length-take-le i bs (omega arith) in
+    let kept = length_laid a (take i bs) out in
+    let stored = set_laid (a + i) (get_or bs i 0) (laid a (take i bs) out) (omega arith) in
+    let joined = laid_behind a (take i bs) (get_or bs i 0 ∷ []) out (omega arith) in
+    stored ∙ rw (size, ← take_more bs i 0 more) at joined

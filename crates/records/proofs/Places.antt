@@ -25,6 +25,10 @@ zeros_left zero m = simp unary_clauses
 zeros_left (suc n) zero = rw zero-sub
 zeros_left (suc n) (suc m) = simp unary_clauses (zeros_left n m)
 
+-- the places with nothing in them
+abbrev pub zeros : List ℤ
+zeros = replicate value_places (pos 0)
+
 -- the first j numbers of s at the front of d, and one more
 abbrev pub over : List ℤ → List ℤ → ℕ → List ℤ
 over d s j = take j s ++ drop j d

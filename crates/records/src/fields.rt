@@ -10,16 +10,16 @@ pub fn of_status(s: Status) -> [u32; STATUS_VALUES]
     ensures { result ≡ status_numbers s }
 {
     [
-        s.id as u32,
-        s.state as u32,
-        s.direction as u32,
-        s.bank as u32,
-        s.input as u32,
-        s.band as u32,
-        s.transmit as u32,
-        s.tuner as u32,
-        s.receive as u32,
-        s.level as u32,
+        u32::from(s.id),
+        u32::from(s.state),
+        u32::from(s.direction),
+        u32::from(s.bank),
+        u32::from(s.input),
+        u32::from(s.band),
+        u32::from(s.transmit),
+        u32::from(s.tuner),
+        u32::from(s.receive),
+        u32::from(s.level),
         s.watts,
         s.swratu,
         s.swrant,
@@ -28,9 +28,9 @@ pub fn of_status(s: Status) -> [u32; STATUS_VALUES]
         s.upper,
         s.lower,
         s.combiner,
-        s.warning as u32,
-        s.alarm as u32,
-        s.comma as u32,
+        u32::from(s.warning),
+        u32::from(s.alarm),
+        u32::from(s.comma),
     ]
 }
 
@@ -60,16 +60,16 @@ pub fn of_05(r: Sentence05) -> [u32; 11]
     ensures { result ≡ numbers05 r }
 {
     [
-        r.band as u32,
-        r.segment as u32,
-        r.memory as u32,
-        r.antenna as u32,
-        r.meter as u32,
-        r.control as u32,
-        r.options as u32,
-        r.state as u32,
-        r.wtime as u32,
-        r.tcmd as u32,
-        r.lcmd as u32,
+        u32::from(r.band),
+        u32::from(r.segment),
+        u32::from(r.memory),
+        u32::from(r.antenna),
+        u32::from(r.meter),
+        u32::from(r.control),
+        u32::from(r.options),
+        u32::from(r.state),
+        u32::from(r.wtime),
+        u32::from(r.tcmd),
+        u32::from(r.lcmd),
     ]
 }

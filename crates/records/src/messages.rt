@@ -41,7 +41,7 @@ pub fn clock_in_range(c: Clock) -> bool
     ensures { result ≡ clock_in_range c }
 {
     (c.year <= 99)
-        & ((1 <= c.month) & (c.month <= 12))
+        & matches!(c.month, 1..=12)
         & ((1 <= c.day) & (c.day <= days_in(c.year, c.month)))
         & (c.hour <= 23)
         & (c.minute <= 59)
@@ -53,12 +53,12 @@ pub fn of_clock(c: Clock) -> [u32; 6]
     ensures { result ≡ clock_numbers c }
 {
     [
-        c.year as u32,
-        c.month as u32,
-        c.day as u32,
-        c.hour as u32,
-        c.minute as u32,
-        c.second as u32,
+        u32::from(c.year),
+        u32::from(c.month),
+        u32::from(c.day),
+        u32::from(c.hour),
+        u32::from(c.minute),
+        u32::from(c.second),
     ]
 }
 

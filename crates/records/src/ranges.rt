@@ -29,7 +29,7 @@ pub fn in_range02(r: Sentence02) -> bool
         & (r.key < 10)
         & (r.pep < 100000)
         & (r.vg <= 255)
-        & ((1 <= r.band) & (r.band <= 9))
+        & matches!(r.band, 1..=9)
         & (r.key <= 1)
 }
 
@@ -46,8 +46,8 @@ pub fn in_range03(r: Sentence03) -> bool
         & (r.acline < 10000)
         & (r.mbstatus < 1000)
         & (r.mbtap < 10)
-        & ((1 <= r.mbtap) & (r.mbtap <= 5))
-        & ((-9999 <= r.temp) & (r.temp <= 9999))
+        & matches!(r.mbtap, 1..=5)
+        & matches!(r.temp, -9999..=9999)
 }
 
 // Each nibble is at most 15; the last three are whole bytes.

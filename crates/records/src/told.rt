@@ -11,7 +11,8 @@ use rules::{CC, FT, Frame, Kind, Message, RV, STATUS_VALUES, Sentence03};
 // How many values a frame has at most: those of a status report.
 pub const VALUE_PLACES: usize = STATUS_VALUES;
 
-// The kind of a frame, how many values it has, and these at the front of the places, with zeros in the others.
+// The kind of a frame, how many values it has, and these at the front of the places, with zeros in the others. There is no
+// heap, and how many a frame has is known only when it is told: so the places are those of the longest, with a count beside.
 #[derive(Clone, Copy)]
 pub struct Fields {
     pub kind: Kind,
@@ -36,14 +37,12 @@ fn with_numbers(kind: Kind, numbers: &[u32]) -> Fields
     ensures { result ≡ with_values kind (map pos numbers.now) }
 {
     let mut values = [0i64; VALUE_PLACES];
-    let mut i = 0;
-    while i < numbers.len() {
-        values[i] = numbers[i] as i64;
-        i += 1;
+    for (i, n) in numbers.iter().enumerate() {
+        values[i] = i64::from(*n);
     }
     Fields {
         kind,
-        count: i,
+        count: numbers.len(),
         values,
     }
 }
@@ -56,7 +55,7 @@ fn fields_of_03(r: Sentence03) -> Fields
     let numbers = of_03(r);
     let eight = with_numbers(Kind::OfSentence(3), &numbers);
     let mut values = eight.values;
-    values[8] = r.temp as i64;
+    values[8] = i64::from(r.temp);
     Fields {
         kind: Kind::OfSentence(3),
         count: 9,
@@ -72,7 +71,7 @@ fn fields_of_message(m: Message) -> Fields
     match m {
         Message::Question(letters) => without_values(Kind::OfQuestion(letters)),
         Message::Number(letters, n) => with_numbers(Kind::OfResponse(letters), &[n]),
-        Message::Version(a, b) => with_numbers(Kind::OfResponse(RV), &[a as u32, b as u32]),
+        Message::Version(a, b) => with_numbers(Kind::OfResponse(RV), &[u32::from(a), u32::from(b)]),
         Message::Clock(c) => with_numbers(Kind::OfResponse(CC), &of_clock(c)),
         Message::Tune => without_values(Kind::OfResponse(FT)),
         Message::OtherLetters(w) => with_numbers(Kind::OfLetters(w), &of_letters(w)),

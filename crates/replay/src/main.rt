@@ -3,15 +3,13 @@
 #![tactic(auto)]
 
 use replays::print_replay;
-use rules::NO_FAMILY;
+use rules::Refusal;
 use std::io;
-use std::num::wrapping_sub_u8;
 
 fn main(rt: HostRuntime) -> io::Result<()> {
-    let mut input = lines::input_buffer();
-    let n = lines::read_full(&rt, &mut input)?;
-    if n == 0 {
-        return lines::print_refused(&rt, NO_FAMILY);
-    }
-    print_replay(&rt, wrapping_sub_u8(input[0], b'0'), &input[1..n])
+    let mut buffer = lines::input_buffer();
+    let Some((family, script)) = lines::read_input(&rt, &mut buffer)? else {
+        return lines::print_refused(&rt, u8::from(Refusal::NoFamily));
+    };
+    print_replay(&rt, family, script)
 }

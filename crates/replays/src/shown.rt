@@ -1,39 +1,37 @@
 // A frame as text, for the programs: its kind, its values, and what the writer makes of it. Each
-// function lays text into a lent line at a place and gives the place behind it; what has no room is
-// left out.
-ghost use Rattle.lines.specs.Lines.{Types};
+// function lays text into a lent line, at the place reached; what has no room is left out.
+ghost use Rattle.lines.specs.Lines.{LineTypes};
 ghost use Rattle.replays.specs.Texts.{written_texts, frame_texts};
 
 use crate::values;
-use lines::{hex, text};
+use lines::Line;
 use listings::kind;
 use records::fields_of;
-use rules::{Frame, LONGEST_REPORT, Written};
+use rules::{Frame, LONGEST_REPORT};
 
 // The written bytes, or `-` where nothing is written.
-fn written(line: &mut [u8], at: usize, frame: Frame) -> usize
-    ensures { Types (written_texts frame) line.old at line.new result }
+fn written<const N: usize>(line: &mut Line<N>, frame: Frame)
+    ensures { LineTypes (written_texts frame) line.old line.new }
 {
     let mut out = [0u8; LONGEST_REPORT];
-    let answer = row_writer::write_frame(frame, &mut out);
-    let Written::Length(n) = answer else {
-        return text(line, at, b"-");
-    };
-    hex(line, at, texts::text(&out, 0, n))
+    match row_writer::write_frame(frame, &mut out) {
+        Ok(n) => line.hex(&out[..n]),
+        Err(_) => line.text(b"-"),
+    }
 }
 
 // The kind, the values, and behind a bar what the writer makes of them.
-pub fn frame(line: &mut [u8], at: usize, frame: Frame) -> usize
-    ensures { Types (frame_texts frame) line.old at line.new result }
+pub fn frame<const N: usize>(line: &mut Line<N>, frame: Frame)
+    ensures { LineTypes (frame_texts frame) line.old line.new }
 {
     let told = fields_of(frame);
-    let of = told.kind;
-    let count = told.count;
-    let values = told.values;
-    let forms = values::forms_of(of);
-    let place = kind(line, at, of);
-    let place = values::asked(line, place, of);
-    let place = values::shown(line, place, &forms, &values[..count]);
-    let place = text(line, place, b" | ");
-    written(line, place, frame)
+    kind(line, told.kind);
+    values::asked(line, told.kind);
+    values::shown(
+        line,
+        &values::forms_of(told.kind),
+        &told.values[..told.count],
+    );
+    line.text(b" | ");
+    written(line, frame);
 }

@@ -5,9 +5,11 @@ use mathlib.Core.Path.{◌≡◌, refl, sym, ap, ◌∙◌}
 use mathlib.Core.Bool.{Bool, true}
 use mathlib.Core.List.{List, ◌++◌}
 use native.Mathlib.Omega.{arith}
-use lib.ListN.{length, take, drop, get_or, length-append, length-drop, get_or-append}
+use lib.ListN.{length, drop, get_or, length-append, length-drop, get_or-append}
 use lib.Seq.{length-take-le, get_or-take, drop-append-le}
 use Rattle.rules.specs.Bytes.{part, every}
+use Rattle.stream_rules.specs.Streams.{held_of}
+use Rattle.stream_rules.specs.declared.Reader.{Reader}
 use Rattle.stream_rules.specs.Heads.{sentence_brackets, is_inner, wait, head}
 use Rattle.frame_laws.proofs.Bytes.{every_append}
 use Rattle.stream_laws.proofs.Runs.{run, run_all}
@@ -20,42 +22,45 @@ use Rattle.search.proofs.Searching.{waiting, begun_waits}
 use Rattle.row_stream.specs.Going.{ReportGoesOn, SentenceGoesOn, GoesOn}
 use Rattle.row_stream.proofs.Front.{family_1, family_2}
 
-module _ (count : ℕ) (held others : List ℕ) (long : length held ≡ 133) where
+module _ (r : Reader) (others : List ℕ) (long : length r.held ≡ 133) where
   abbrev bytes : List ℕ
-  bytes = take count held ++ others
+  bytes = held_of r ++ others
 
   -- the held bytes are in front
-  size : count ≤ 133 → length bytes ≡ count + length others
-  size low = length-append (take count held) others ∙ ap (λ (n : ℕ). n + length others) (length-take-le count held (omega arith))
+  held_size : r.count ≤ 133 → length (held_of r) ≡ r.count
+  held_size low = length-take-le r.count r.held (omega arith)
 
-  first_stands : 0 < count → count ≤ 133 → get_or bytes 0 0 ≡ get_or held 0 0
+  size : r.count ≤ 133 → length bytes ≡ r.count + length others
+  size low = length-append (held_of r) others ∙ ap (λ (n : ℕ). n + length others) (held_size low)
+
+  first_stands : 0 < r.count → r.count ≤ 133 → get_or bytes 0 0 ≡ get_or r.held 0 0
   first_stands some low =
-      get_or-append (take count held) others 0 0 (omega (arith, length-take-le count held (omega arith)))
-      ∙ get_or-take count held 0 0 some
+      get_or-append (held_of r) others 0 0 (omega (arith, held_size low))
+      ∙ get_or-take r.count r.held 0 0 some
 
-  pub report_goes_on : ReportGoesOn count held (length others) → GoesOn 1 count held others
-  report_goes_on g =
+  pub report_goes_on : r.family ≡ 1 → ReportGoesOn r (length others) → GoesOn r others
+  report_goes_on family g =
       let few : length bytes < 75 = omega (arith, size (omega (arith, g.short)), g.short) in
-      let starts = still_begun (take count held) others (begun (take count held) g.begun) in
+      let starts = still_begun (held_of r) others (begun (held_of r) g.begun) in
       record {
-        few = record { a_family = family_1; low = omega (arith, g.short); behind = omega (arith, g.short) };
-        undecided = sym (waiting 1 bytes _ (begun_waits bytes starts (omega (arith, few))) refl);
+        few = record { a_family = rw family family_1; low = rw family (omega (arith, g.short)); behind = omega (arith, g.short) };
+        undecided = rw family (sym (waiting 1 bytes _ (begun_waits bytes starts (omega (arith, few))) refl));
       }
 
-  pub sentence_goes_on : SentenceGoesOn count held others → GoesOn 2 count held others
-  sentence_goes_on g =
-      let low : count ≤ 133 = omega (arith, g.short) in
-      let held_behind = part 1 (count - 1) held in
+  pub sentence_goes_on : r.family ≡ 2 → SentenceGoesOn r others → GoesOn r others
+  sentence_goes_on family g =
+      let low : r.count ≤ 133 = omega (arith, g.short) in
+      let held_behind = part 1 (r.count - 1) r.held in
       let inner : ℕ → Bool = is_inner sentence_brackets in
       let behind : drop 1 bytes ≡ held_behind ++ others =
-      drop-append-le 1 (take count held) others (omega (arith, g.some, length-take-le count held (omega arith)))
-      ∙ ap (λ (l : List ℕ). l ++ others) (drop_take 1 count held) in
+      drop-append-le 1 (held_of r) others (omega (arith, g.some, held_size low))
+      ∙ ap (λ (l : List ℕ). l ++ others) (drop_take 1 r.count r.held) in
       let payload : every inner (drop 1 bytes) ≡ true =
       ap (every inner) behind ∙ every_append inner held_behind others g.payload_held g.payload_offered in
-      let all : run sentence_brackets bytes ≡ count + length others - 1 = run_all sentence_brackets (drop 1 bytes) payload ∙ length-drop 1 bytes ∙ ap (λ (n : ℕ). n - 1) (size low) in
+      let all : run sentence_brackets bytes ≡ r.count + length others - 1 = run_all sentence_brackets (drop 1 bytes) payload ∙ length-drop 1 bytes ∙ ap (λ (n : ℕ). n - 1) (size low) in
       let undecided : head 2 bytes ≡ wait =
-      inner_open 2 (bracketed 2 refl) bytes (omega (arith, size low, g.some)) (first_stands g.some low ∙ g.dollar) (count + length others - 1) all (omega (arith, g.short)) (omega (arith, size low)) in
+      inner_open 2 (bracketed 2 refl) bytes (omega (arith, size low, g.some)) (first_stands g.some low ∙ g.dollar) (r.count + length others - 1) all (omega (arith, g.short)) (omega (arith, size low)) in
       record {
-        few = record { a_family = family_2; low = omega (arith, g.short); behind = omega (arith, g.short) };
-        undecided = sym (waiting 2 bytes _ (stops_waiting 2 bytes 0 0 0 0 (begins 2 bytes 0 0) undecided) refl);
+        few = record { a_family = rw family family_2; low = rw family (omega (arith, g.short)); behind = omega (arith, g.short) };
+        undecided = rw family (sym (waiting 2 bytes _ (stops_waiting 2 bytes 0 0 0 0 (begins 2 bytes 0 0) undecided) refl));
       }

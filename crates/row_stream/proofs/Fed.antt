@@ -2,6 +2,10 @@
 -- gives back, and else the one that it was made on.
 -- Assumes nothing.
 use Prim.Native.Nat.{ℕ, ◌≤◌}
+use Rattle.rules.specs.declared.Refusal.{Refusal}
+use Rattle.stream_rules.specs.declared.Progress.{Progress}
+use Rattle.stream_rules.specs.declared.Progress.TheVariants.{Done, More, Ready}
+use Rattle.std.specs.Prelude.{Err, Ok, Result}
 use mathlib.Core.Path.{◌≡◌, refl, sym, ap, subst, ◌∙◌}
 use mathlib.Core.Bool.{cond}
 use mathlib.Core.List.{List}
@@ -12,8 +16,6 @@ use lib.ListN.{length}
 use Rattle.stream_rules.specs.Streams.{said_to_feed, Feeds}
 use Rattle.stream_rules.specs.declared.Reader.{Reader}
 use Rattle.stream_rules.specs.declared.Fed.{Fed}
-use Rattle.stream_rules.specs.declared.Answer.{Answer}
-use Rattle.stream_rules.specs.declared.Answer.TheVariants.{Ready, More, Done, Refused}
 use Rattle.stream_laws.specs.Sessions.{is_no_refusal}
 use Rattle.stream_laws.proofs.States.{refused_as_before}
 use Rattle.rows.specs.Rows.{longest_row, row_fed, Lays}
@@ -40,12 +42,12 @@ module _ (reader : Reader) (offered : List ℕ) (numbers : List ℤ) (f : Fed) (
   pub as_it_was : (result ≡ 0 → ⊥) → longest_row ≤ length numbers → f.reader ≡ reader
   as_it_was some long = by_answer f.answer refl
     where
-      by_answer : (a : Answer) → f.answer ≡ a → f.reader ≡ reader
-      by_answer (Ready r) is =
+      by_answer : (a : (Result Progress Refusal)) → f.answer ≡ a → f.reader ≡ reader
+      by_answer (Ok (Ready r)) is =
           let short = row_fits r.taken r.start r.skipped r.length r.frame in
-          absurd (some (lays.answers ∙ rw is (room (row_fed (Ready r)) numbers short long)))
-      by_answer (More n) is = absurd (some (lays.answers ∙ rw is (room (row_fed (More n)) numbers (lit≤ tt) long)))
-      by_answer (Done n) is = absurd (some (lays.answers ∙ rw is (room (row_fed (Done n)) numbers (lit≤ tt) long)))
-      by_answer (Refused n) is =
+          absurd (some (lays.answers ∙ rw is (room (row_fed (Ok (Ready r))) numbers short long)))
+      by_answer (Ok (More n)) is = absurd (some (lays.answers ∙ rw is (room (row_fed (Ok (More n))) numbers (lit≤ tt) long)))
+      by_answer (Ok (Done n)) is = absurd (some (lays.answers ∙ rw is (room (row_fed (Ok (Done n))) numbers (lit≤ tt) long)))
+      by_answer (Err n) is =
           ap (λ (g : Fed). g.reader) feeds.answers
           ∙ refused_as_before reader offered (ap (λ (g : Fed). is_no_refusal g.answer) (sym feeds.answers) ∙ ap is_no_refusal is)

@@ -10,56 +10,35 @@ mod front;
 mod going;
 mod row_search;
 
-ghost use Rattle.std.specs.Prelude.{◌≡◌, true};
-ghost use Rattle.row_stream.specs.FedRows.{FeedsLent};
-ghost use Rattle.row_stream.specs.Short.{IsPlain};
+ghost use Rattle.rows.specs.Rows.{outcome_number};
+ghost use Rattle.row_stream.specs.FedRows.{FeedsRow};
 
+use crate::feed_any;
 use crate::short_ways::few::{feed_few, is_few};
 use crate::short_ways::front::front_frame;
 use crate::short_ways::going::{feed_on, goes_on};
-use crate::{Counts, feed_any, left_so};
-use held_bytes::places_in;
 use rows::LONGEST_ROW;
-use starts::advanced;
-use stream_rules::PLACES;
-
-// True only of a call on an open reader, with 133 places and room for every row.
-fn is_plain(closed: u8, places: usize, room: usize) -> bool
-    ensures { result ≡ true → IsPlain closed places room }
-{
-    (closed == 0) & (places == PLACES) & (LONGEST_ROW <= room)
-}
+use stream_rules::{Outcome, Reader};
 
 // The short way that serves this call, if there is one; else the general way.
-pub(crate) fn feed_short(
-    family: u8,
-    closed: u8,
-    count: u8,
-    at: u32,
-    skipped: u32,
-    held: &mut [u8; PLACES],
-    offered: &[u8],
-    numbers: &mut [i64],
-) -> Counts
-    ensures { FeedsLent family closed count at skipped held offered numbers result }
+pub(crate) fn feed_short(reader: &mut Reader, offered: &[u8], numbers: &mut [i64]) -> Outcome
+    ensures { FeedsRow reader.old offered.now numbers.old (outcome_number result) reader.new numbers.new }
 {
-    if !is_plain(closed, places_in(held), numbers.len()) {
-        let any = feed_any(family, closed, count, at, skipped, held, offered, numbers);
-        return left_so(any.number, any.count, any.at, any.skipped);
+    if reader.closed != 0 {
+        return feed_any(reader, offered, numbers);
     }
-    if count == 0 {
-        let n = front_frame(family, at, skipped, held, offered, numbers);
-        if n != 0 {
-            return left_so(0, 0, advanced(at, n), 0);
+    if numbers.len() < LONGEST_ROW {
+        return feed_any(reader, offered, numbers);
+    }
+    if reader.count == 0 {
+        if front_frame(reader, offered, numbers) {
+            return Ok(());
         }
-    } else {
-        if goes_on(family, count, held, offered) {
-            return feed_on(family, count, at, skipped, held, offered, numbers);
-        }
+    } else if goes_on(reader, offered) {
+        return feed_on(reader, offered, numbers);
     }
-    if is_few(family, count, offered.len()) {
-        return feed_few(family, count, at, skipped, held, offered, numbers);
+    if is_few(reader, offered.len()) {
+        return feed_few(reader, offered, numbers);
     }
-    let any = feed_any(family, closed, count, at, skipped, held, offered, numbers);
-    left_so(any.number, any.count, any.at, any.skipped)
+    feed_any(reader, offered, numbers)
 }

@@ -32,7 +32,7 @@ use Rattle.frame_laws.proofs.Report.{fits}
 use Rattle.frame_laws.proofs.Listed.{number_fits}
 use Rattle.frame_laws.proofs.MessageParts.{days_31}
 use Rattle.rows.specs.Rows.{kind_row, code_of}
-use Rattle.row_writer.specs.declared.given.Given.TheVariants.{AFrame}
+use Rattle.std.specs.Prelude.{Some}
 use Rattle.row_writer.specs.Given.{at_most, a_temperature, number_up_to, temperature_of, value_at, byte_limit, word_limit, is_status_row, is_row_of, is_row03, status_from, from02, from03, from05, clock_from, sentence_given, behind_given, response_given, frame_given}
 
 -- Numbers up to a limit, as the first of some values: they pass the test, and each is kept.
@@ -98,9 +98,9 @@ module _ (r : Sentence02) (e : in_range02 r ≡ true) (rest : List ℤ) where
         pep = k 12 refl i;
       }
 
-  back02 : frame_given 4 2 (values (Apa02 r) ++ rest) ≡ AFrame (Apa02 r)
+  back02 : frame_given 4 2 (values (Apa02 r) ++ rest) ≡ Some (Apa02 r)
   unfolding frame_given sentence_given
-  back02 = rw row02 (ap (λ x. AFrame (Apa02 x)) record02)
+  back02 = rw row02 (ap (λ x. Some (Apa02 x)) record02)
 
 -- Sentence 03: a temperature of four digits fits 32 bits with its sign.
 small_temperature : (z : ℤ) → nat_abs z ≤ 9999 → a_temperature z ≡ true
@@ -137,9 +137,9 @@ module _ (r : Sentence03) (e : in_range03 r ≡ true) (rest : List ℤ) where
         temp = temp i;
       }
 
-  back03 : frame_given 4 3 (values (Apa03 r) ++ rest) ≡ AFrame (Apa03 r)
+  back03 : frame_given 4 3 (values (Apa03 r) ++ rest) ≡ Some (Apa03 r)
   unfolding frame_given sentence_given
-  back03 = rw row03 (ap (λ x. AFrame (Apa03 x)) record03)
+  back03 = rw row03 (ap (λ x. Some (Apa03 x)) record03)
 
 -- Sentence 05.
 module _ (r : Sentence05) (e : in_range05 r ≡ true) (rest : List ℤ) where
@@ -168,9 +168,9 @@ module _ (r : Sentence05) (e : in_range05 r ≡ true) (rest : List ℤ) where
         lcmd = k 10 refl i;
       }
 
-  back05 : frame_given 4 5 (values (Apa05 r) ++ rest) ≡ AFrame (Apa05 r)
+  back05 : frame_given 4 5 (values (Apa05 r) ++ rest) ≡ Some (Apa05 r)
   unfolding frame_given sentence_given
-  back05 = rw row05 (ap (λ x. AFrame (Apa05 x)) record05)
+  back05 = rw row05 (ap (λ x. Some (Apa05 x)) record05)
 
 -- The status report: ten bytes, eight words, three bytes. Its letters are bytes, and so is its form.
 letter : (cs : List ℕ) (b : ℕ) → every (λ c. leb c 255) cs ≡ true → one_of cs b ≡ true → b ≤ 255
@@ -252,9 +252,9 @@ module _ (s : StatusType.Status) (e : status_in_range s ≡ true) (rest : List �
         comma = c 2 refl i;
       }
 
-  back_status : frame_given 2 0 (values (Status s) ++ rest) ≡ AFrame (Status s)
+  back_status : frame_given 2 0 (values (Status s) ++ rest) ≡ Some (Status s)
   unfolding frame_given
-  back_status = rw status-row (ap (λ x. AFrame (Status x)) status_record)
+  back_status = rw status-row (ap (λ x. Some (Status x)) status_record)
 
 -- Messages: a number has at most five digits, and the pairs of a version, of a date and of a time are bytes.
 number_word : (letters n width limit : ℕ) → behind letters ≡ ANumber width limit → leb n limit ≡ true → Words (n ∷ [])
@@ -264,27 +264,27 @@ number_word letters n width limit is e =
     (omega (arith, fits.2, leb-true n limit e), tt)
 
 module _ (rest : List ℤ) where
-  back_number : (letters n : ℕ) → is_up_to (behind letters) n ≡ true → frame_given 8 letters (pos n ∷ rest) ≡ AFrame (MessageOf (Number letters n))
+  back_number : (letters n : ℕ) → is_up_to (behind letters) n ≡ true → frame_given 8 letters (pos n ∷ rest) ≡ Some (MessageOf (Number letters n))
   unfolding frame_given response_given
   back_number letters n e = by_behind (behind letters) refl e
     where
-      by_behind : (b : Behind) → behind letters ≡ b → is_up_to b n ≡ true → behind_given b letters (pos n ∷ rest) ≡ AFrame (MessageOf (Number letters n))
+      by_behind : (b : Behind) → behind letters ≡ b → is_up_to b n ≡ true → behind_given b letters (pos n ∷ rest) ≡ Some (MessageOf (Number letters n))
       by_behind (ANumber width limit) is up =
           let w = number_word letters n width limit is up in
-          rw (row_of word_limit (n ∷ []) w rest) (ap (λ x. AFrame (MessageOf (Number letters x))) (kept word_limit (n ∷ []) w rest 0 refl))
+          rw (row_of word_limit (n ∷ []) w rest) (ap (λ x. Some (MessageOf (Number letters x))) (kept word_limit (n ∷ []) w rest 0 refl))
       by_behind AVersion is up = absurd (false≢true up)
       by_behind AClock is up = absurd (false≢true up)
       by_behind Alone is up = absurd (false≢true up)
       by_behind Anything is up = absurd (false≢true up)
 
   back_version : (a b : ℕ) → message_in_range (Version a b) ≡ true
-      → frame_given 8 (word (ascii "RV")) (pos a ∷ pos b ∷ rest) ≡ AFrame (MessageOf (Version a b))
+      → frame_given 8 (word (ascii "RV")) (pos a ∷ pos b ∷ rest) ≡ Some (MessageOf (Version a b))
   unfolding message_in_range frame_given response_given behind one_of word_from
   back_version a b e =
       let h = simp and-eq-true_iff at e in
       let pairs : AllBytes (a ∷ b ∷ []) = omega (arith, leb-true) in
       let k = kept byte_limit (a ∷ b ∷ []) pairs rest in
-      rw (row_of byte_limit (a ∷ b ∷ []) pairs rest) (ap₂ (λ x y. AFrame (MessageOf (Version x y))) (k 0 refl) (k 1 refl))
+      rw (row_of byte_limit (a ∷ b ∷ []) pairs rest) (ap₂ (λ x y. Some (MessageOf (Version x y))) (k 0 refl) (k 1 refl))
 
 module _ (t : ClockType.Clock) (e : clock_in_range t ≡ true) (rest : List ℤ) where
   clock_bytes : AllBytes (clock_numbers t)
@@ -304,12 +304,12 @@ module _ (t : ClockType.Clock) (e : clock_in_range t ≡ true) (rest : List ℤ)
         second = k 5 refl i;
       }
 
-  back_clock : frame_given 8 (word (ascii "CC")) (map pos (clock_numbers t) ++ rest) ≡ AFrame (MessageOf (Clock t))
+  back_clock : frame_given 8 (word (ascii "CC")) (map pos (clock_numbers t) ++ rest) ≡ Some (MessageOf (Clock t))
   unfolding frame_given response_given behind one_of word_from
-  back_clock = rw (row_of byte_limit (clock_numbers t) clock_bytes rest) (ap (λ x. AFrame (MessageOf (Clock x))) clock_record)
+  back_clock = rw (row_of byte_limit (clock_numbers t) clock_bytes rest) (ap (λ x. Some (MessageOf (Clock x))) clock_record)
 
 back_message : (m : Message) → message_in_range m ≡ true → (rest : List ℤ)
-    → frame_given (kind_row (message_kind m)) (code_of (message_kind m)) (map pos (message_numbers m) ++ rest) ≡ AFrame (MessageOf m)
+    → frame_given (kind_row (message_kind m)) (code_of (message_kind m)) (map pos (message_numbers m) ++ rest) ≡ Some (MessageOf m)
 unfolding message_in_range frame_given response_given behind one_of word_from
 back_message (Question letters) e rest = refl
 back_message (Number letters n) e rest = back_number rest letters n e
@@ -318,7 +318,7 @@ back_message (Clock t) e rest = back_clock t e rest
 back_message Tune e rest = refl
 back_message (OtherLetters w) e rest = absurd (false≢true e)
 
-pub given_back : (f : Frame) → allowed f ≡ true → (rest : List ℤ) → frame_given (kind_row (kind_of f)) (code_of (kind_of f)) (values f ++ rest) ≡ AFrame f
+pub given_back : (f : Frame) → allowed f ≡ true → (rest : List ℤ) → frame_given (kind_row (kind_of f)) (code_of (kind_of f)) (values f ++ rest) ≡ Some f
 unfolding allowed frame_given
 given_back (Ack c) e rest = refl
 given_back (Status s) e rest = back_status s e rest

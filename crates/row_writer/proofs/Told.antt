@@ -4,13 +4,12 @@ use Prim.Native.Nat.{ℕ, zero, suc, ◌+◌, ◌≤◌}
 use mathlib.Core.Path.{◌≡◌, refl, sym, ap, ap₂, subst, ◌∙◌}
 use mathlib.Core.Bool.{Bool, true, false, ◌&&◌, cond}
 use mathlib.Core.List.{List, [], ◌∷◌, ◌++◌}
-use native.Mathlib.Nat.{zero-add, suc-add}
 use native.Mathlib.Omega.{arith}
 use borrow.Author.Tests.{leb-true, eqb-true}
 use lib.Dec.{eqb, leb}
 use lib.IntN.{ℤ, pos, negsuc}
 use lib.ListN.{length, take, drop}
-use lib.Seq.{take-suc, drop-cons}
+use lib.Seq.{take-add, take-suc, drop-cons}
 use Rattle.rules.specs.Bytes.{every}
 use Rattle.rules.specs.Sentences.{numbers02, numbers03}
 use Rattle.rules.specs.Messages.{behind}
@@ -24,8 +23,7 @@ use Rattle.rules.specs.declared.Frame.TheVariants.{Status, Apa02, Apa03, Apa05, 
 use Rattle.frame_laws.proofs.Bytes.{both, every_split}
 use Rattle.frame_laws.proofs.Listed.{version_word, clock_word, alone_word}
 use Rattle.rows.specs.Rows.{status_row, kind_row, code_of}
-use Rattle.row_writer.specs.declared.given.Given.{Given}
-use Rattle.row_writer.specs.declared.given.Given.TheVariants.{AFrame, Nothing}
+use Rattle.std.specs.Prelude.{Option, Some, None}
 use Rattle.row_writer.specs.Given.{at_most, byte_limit, word_limit, number_up_to, a_temperature, temperature_of, value_at, is_status_row, is_row_of, is_row03, status_from, from02, from03, from05, clock_from, sentence_given, behind_given, response_given, frame_given}
 
 pub record Told (kind code : ℕ) (vs : List ℤ) (f : Frame) : Type 0 where
@@ -51,12 +49,6 @@ module _ (limit : ℕ) (vs : List ℤ) where
       let test = every_split (at_most limit) (value_at vs i) (take n (drop (suc i) vs)) (rw cut at e) in
       ap₂ (λ (v : ℤ) (rest : List ℤ). v ∷ rest) (kept_value limit (value_at vs i) test.0) (kept_values (suc i) n (omega (arith, h)) test.1)
       ∙ sym (ap (take (suc n)) cut)
-
--- two parts one behind the other
-two_parts : (a b : ℕ) (vs : List ℤ) → a + b ≤ length vs → take a vs ++ take b (drop a vs) ≡ take (a + b) vs
-two_parts zero b vs h = rw zero-add
-two_parts (suc a) b [] h = absurd (omega (arith, h))
-two_parts (suc a) b (v ∷ vs) h = ap (λ (rest : List ℤ). v ∷ rest) (two_parts a b vs (omega (arith, h))) ∙ rw suc-add
 
 -- A row that fits as a whole.
 fitting_row : (count limit : ℕ) (vs : List ℤ) → is_row_of count limit vs ≡ true → (count ≤ length vs) × (fields_at limit vs 0 count ≡ take count vs)
@@ -108,39 +100,27 @@ told_status code vs e =
       same_kind = refl;
       same_code = refl;
       enough = long;
-      same_values = ap₂ (λ (p q : List ℤ). p ++ q) (ap₂ (λ (p q : List ℤ). p ++ q) a b ∙ two_parts 10 8 vs (omega (arith, long))) c
-          ∙ two_parts 18 3 vs (omega (arith, long));
+      same_values = ap₂ (λ (p q : List ℤ). p ++ q) (ap₂ (λ (p q : List ℤ). p ++ q) a b ∙ sym (take-add 10 8 vs)) c ∙ sym (take-add 18 3 vs);
     }
 
--- A frame that is given where a test passes.
-given_frame : {f g : Frame} → AFrame g ≡ AFrame f → g ≡ f
-given_frame {f} {g} e = ap (λ (x : Given). frame_or x) e
-  where
-    frame_or : Given → Frame
-    frame_or (AFrame h) = h
-    frame_or Nothing = g
-
-none_given : {f : Frame} → Nothing ≡ AFrame f → ⊥
-none_given e = let z : ◌≡◌ {A = ℕ} 0 1 = ap is_frame e in omega arith
-  where
-    is_frame : Given → ℕ
-    is_frame (AFrame h) = 1
-    is_frame Nothing = 0
-
+-- What holds of the frame that is given: by a test, or where none is.
 module _ {f : Frame} {P : Type 0} where
-  otherwise : (test : Bool) {x y : Given} → (test ≡ true → x ≡ AFrame f → P) → (y ≡ AFrame f → P) → cond test x y ≡ AFrame f → P
+  otherwise : (test : Bool) {x y : Option Frame} → (test ≡ true → x ≡ Some f → P) → (y ≡ Some f → P) → cond test x y ≡ Some f → P
   otherwise true then else e = then refl e
   otherwise false then else e = else e
 
-  never : Nothing ≡ AFrame f → P
-  never e = absurd (none_given e)
+  never : None ≡ Some f → P
+  never e = cc
+
+given_frame : {f g : Frame} → Some g ≡ Some f → g ≡ f
+given_frame e = cc
 
 -- what holds of the frame that is given where the row fits
-fitting : {kind code : ℕ} {vs : List ℤ} {f : Frame} (test : Bool) {g : Frame} → (test ≡ true → Told kind code vs g) → cond test (AFrame g) Nothing ≡ AFrame f → Told kind code vs f
+fitting : {kind code : ℕ} {vs : List ℤ} {f : Frame} (test : Bool) {g : Frame} → (test ≡ true → Told kind code vs g) → cond test (Some g) None ≡ Some f → Told kind code vs f
 fitting {kind} {code} {vs} test told = otherwise test (λ fits e. subst (Told kind code vs) (given_frame e) (told fits)) never
 
 -- A sentence, by its number, and a response, by what may stand behind its letters.
-told_sentence : (code : ℕ) (vs : List ℤ) (f : Frame) → sentence_given code vs ≡ AFrame f → Told 4 code vs f
+told_sentence : (code : ℕ) (vs : List ℤ) (f : Frame) → sentence_given code vs ≡ Some f → Told 4 code vs f
 unfolding sentence_given
 told_sentence code vs f =
     otherwise (eqb code 2) (λ is. fitting (is_row_of 13 word_limit vs) (λ fits. rw (eqb-true code 2 is) (told02 vs fits)))
@@ -160,7 +140,7 @@ told_response letters count limit vs m fits of fields long =
       same_values = fields ∙ h.1 ∙ ap (λ (n : ℕ). take n vs) (sym long);
     }
 
-told_behind : (letters : ℕ) (vs : List ℤ) (f : Frame) (b : Behind) → behind letters ≡ b → behind_given b letters vs ≡ AFrame f → Told 8 letters vs f
+told_behind : (letters : ℕ) (vs : List ℤ) (f : Frame) (b : Behind) → behind letters ≡ b → behind_given b letters vs ≡ Some f → Told 8 letters vs f
 unfolding clock_from
 told_behind letters vs f (ANumber width limit) is = fitting (is_row_of 1 word_limit vs) (λ fits. told_response letters 1 word_limit vs _ fits refl refl refl)
 told_behind letters vs f AVersion is =
@@ -174,7 +154,7 @@ told_behind letters vs f Alone is =
 told_behind letters vs f Anything is = never
 
 -- a frame without values
-told_code : {kind code : ℕ} {vs : List ℤ} {f g : Frame} → kind_row (kind_of g) ≡ kind → code_of (kind_of g) ≡ cond (eqb kind status_row) 0 code → values g ≡ [] → AFrame g ≡ AFrame f
+told_code : {kind code : ℕ} {vs : List ℤ} {f g : Frame} → kind_row (kind_of g) ≡ kind → code_of (kind_of g) ≡ cond (eqb kind status_row) 0 code → values g ≡ [] → Some g ≡ Some f
     → Told kind code vs f
 told_code {kind} {code} {vs} {f} {g} same is none e =
     subst (Told kind code vs) (given_frame e)
@@ -186,7 +166,7 @@ told_code {kind} {code} {vs} {f} {g} same is none e =
     })
 
 -- All kinds.
-pub given_told : (kind code : ℕ) (vs : List ℤ) (f : Frame) → frame_given kind code vs ≡ AFrame f → Told kind code vs f
+pub given_told : (kind code : ℕ) (vs : List ℤ) (f : Frame) → frame_given kind code vs ≡ Some f → Told kind code vs f
 unfolding frame_given response_given
 given_told kind code vs f =
     otherwise (eqb kind 1) (λ is. rw (eqb-true kind 1 is) (told_code refl refl refl))

@@ -1,9 +1,13 @@
 -- A frame as a caller gives it who has plain numbers only: a kind, a code, and a row of values. What frame that is, and
 -- what a writer of it answers and leaves, as plain numbers too.
-use Rattle.std.specs.Prelude.{ℕ, ◌≡◌, Bool, false, ◌&&◌, cond, List, [], eqb, leb, ℤ, pos, negsuc, nat_abs, length, take, drop, get_or}
+use Rattle.std.specs.Prelude.{ℕ, ◌≡◌, Bool, false, ◌&&◌, ◌||◌, cond, List, [], eqb, ltb, leb, ℤ, pos, negsuc, nat_abs, length, take, drop, get_or}
+use Rattle.rules.specs.Answers.{Read, Wrote}
+use Rattle.rules.specs.declared.Refusal.{Refusal}
+use Rattle.rules.specs.declared.Refusal.TheVariants.{NoCode, NoRecord}
+use Rattle.std.specs.Prelude.{Err, Ok, Result, Option, Some, None}
 use Rattle.rules.specs.Bytes.{every}
 use Rattle.rules.specs.Messages.{behind}
-use Rattle.rules.specs.Answers.{said_to_write, written, output_after, no_record, kind_of, allowed, not_allowed, bytes_of, status_values}
+use Rattle.rules.specs.Answers.{Writes, said_to_write, written, output_after, kind_of, allowed, not_allowed, bytes_of, status_values}
 use Rattle.rules.specs.declared.Status as StatusType
 use Rattle.rules.specs.declared.Sentence02.{Sentence02}
 use Rattle.rules.specs.declared.Sentence03.{Sentence03}
@@ -13,12 +17,9 @@ use Rattle.rules.specs.declared.Behind.{Behind}
 use Rattle.rules.specs.declared.Behind.TheVariants.{ANumber, AVersion, AClock, Alone, Anything}
 use Rattle.rules.specs.declared.Message.{Message}
 use Rattle.rules.specs.declared.Message.TheVariants.{Question, Number, Version, Clock, Tune}
+use Rattle.rules.specs.declared.Frame.{Frame}
 use Rattle.rules.specs.declared.Frame.TheVariants.{Ack, Status, Command, Apa02, Apa03, Apa05, Message as MessageOf}
-use Rattle.rules.specs.declared.Written.{Written}
-use Rattle.rules.specs.declared.Written.TheVariants.{Length, Refused}
 use Rattle.rows.specs.Rows.{refusal_of}
-use Rattle.row_writer.specs.declared.given.Given.{Given}
-use Rattle.row_writer.specs.declared.given.Given.TheVariants.{AFrame, Nothing}
 
 -- a value from 0 to the limit
 abbrev pub at_most : ℕ → ℤ → Bool
@@ -151,59 +152,76 @@ clock_from vs = record {
 }
 
 -- What is given: a frame, or nothing, where no record can hold the values or there is no such kind.
-unfoldable pub sentence_given : ℕ → List ℤ → Given
+unfoldable pub sentence_given : ℕ → List ℤ → Option Frame
 sentence_given number vs =
-    cond (eqb number 2) (cond (is_row_of 13 word_limit vs) (AFrame (Apa02 (from02 vs))) Nothing)
-    (cond (eqb number 3) (cond (is_row03 vs) (AFrame (Apa03 (from03 vs))) Nothing)
-    (cond (eqb number 5) (cond (is_row_of 11 byte_limit vs) (AFrame (Apa05 (from05 vs))) Nothing)
-    Nothing))
+    cond (eqb number 2) (cond (is_row_of 13 word_limit vs) (Some (Apa02 (from02 vs))) None)
+    (cond (eqb number 3) (cond (is_row03 vs) (Some (Apa03 (from03 vs))) None)
+    (cond (eqb number 5) (cond (is_row_of 11 byte_limit vs) (Some (Apa05 (from05 vs))) None)
+    None))
 
-abbrev pub given_if : Bool → Message → Given
-given_if fits m = cond fits (AFrame (MessageOf m)) Nothing
+abbrev pub given_if : Bool → Message → Option Frame
+given_if fits m = cond fits (Some (MessageOf m)) None
 
-abbrev pub behind_given : Behind → ℕ → List ℤ → Given
+abbrev pub behind_given : Behind → ℕ → List ℤ → Option Frame
 behind_given (ANumber width limit) letters vs = given_if (is_row_of 1 word_limit vs) (Number letters (word_of (value_at vs 0)))
 behind_given AVersion letters vs = given_if (is_row_of 2 byte_limit vs) (Version (byte_of (value_at vs 0)) (byte_of (value_at vs 1)))
 behind_given AClock letters vs = given_if (is_row_of 6 byte_limit vs) (Clock (clock_from vs))
-behind_given Alone letters vs = AFrame (MessageOf Tune)
-behind_given Anything letters vs = Nothing
+behind_given Alone letters vs = Some (MessageOf Tune)
+behind_given Anything letters vs = None
 
-unfoldable pub response_given : ℕ → List ℤ → Given
+unfoldable pub response_given : ℕ → List ℤ → Option Frame
 response_given letters vs = behind_given (behind letters) letters vs
 
-unfoldable pub frame_given : ℕ → ℕ → List ℤ → Given
+unfoldable pub frame_given : ℕ → ℕ → List ℤ → Option Frame
 frame_given kind code vs =
-    cond (eqb kind 1) (AFrame (Ack code))
-    (cond (eqb kind 2) (cond (is_status_row vs) (AFrame (Status (status_from vs))) Nothing)
-    (cond (eqb kind 3) (AFrame (Command code))
+    cond (eqb kind 1) (Some (Ack code))
+    (cond (eqb kind 2) (cond (is_status_row vs) (Some (Status (status_from vs))) None)
+    (cond (eqb kind 3) (Some (Command code))
     (cond (eqb kind 4) (sentence_given code vs)
-    (cond (eqb kind 7) (AFrame (MessageOf (Question code)))
+    (cond (eqb kind 7) (Some (MessageOf (Question code)))
     (cond (eqb kind 8) (response_given code vs)
-    Nothing)))))
+    None)))))
+
+-- The code of a frame that holds one in a byte, and what is given with its refusal where it is nothing.
+abbrev pub byte_code : ℕ → Result ℕ Refusal
+byte_code code = cond (leb code byte_limit) (Ok code) (Err NoCode)
+
+abbrev pub or_no_record : Option Frame → Read
+or_no_record (Some f) = Ok f
+or_no_record None = Err NoRecord
+
+abbrev pub given_or_refused : ℕ → ℕ → List ℤ → Read
+given_or_refused kind code vs =
+    cond (ltb byte_limit code && (eqb kind 1 || eqb kind 3)) (Err NoCode) (or_no_record (frame_given kind code vs))
 
 -- Whether what is given is allowed, its refusal where it is not, and its bytes. Nothing is refused as a record is that is
 -- not allowed.
-abbrev pub allowed_given : Given → Bool
-allowed_given (AFrame f) = allowed f
-allowed_given Nothing = false
+abbrev pub allowed_given : Option Frame → Bool
+allowed_given (Some f) = allowed f
+allowed_given None = false
 
-abbrev pub refusal_given : Given → ℕ
-refusal_given (AFrame f) = not_allowed (kind_of f)
-refusal_given Nothing = no_record
+abbrev pub refusal_given : Option Frame → Refusal
+refusal_given (Some f) = not_allowed (kind_of f)
+refusal_given None = NoRecord
 
-abbrev pub bytes_given : Given → List ℕ
-bytes_given (AFrame f) = bytes_of f
-bytes_given Nothing = []
+abbrev pub bytes_given : Option Frame → List ℕ
+bytes_given (Some f) = bytes_of f
+bytes_given None = []
 
--- The length goes where the caller lent a place for it; on a refusal that place keeps what it held.
-abbrev pub length_or : ℕ → Written → ℕ
-length_or before (Length n) = n
-length_or before (Refused n) = before
+-- What is given is written.
+abbrev pub WritesFrame : Option Frame → List ℕ → Wrote → List ℕ → Type 0
+WritesFrame g = Writes (allowed_given g) (refusal_given g) (bytes_given g)
 
-pub record WritesNumbers (may : Bool) (n : ℕ) (frame out : List ℕ) (before answer : ℕ) (out_after : List ℕ) (after : ℕ) : Type 0 where
-  pub answers : answer ≡ refusal_of (said_to_write (written may n frame out))
+-- The same as plain numbers. The length that is told goes where the caller lent a place for it; on a refusal that place keeps
+-- what it held.
+abbrev pub told_or : ℕ → Wrote → ℕ
+told_or before (Ok n) = n
+told_or before (Err e) = before
+
+pub record WritesNumbers (may : Bool) (e : Refusal) (frame out : List ℕ) (before answer : ℕ) (out_after : List ℕ) (after : ℕ) : Type 0 where
+  pub answers : answer ≡ refusal_of (said_to_write (written may e frame out))
   pub content : out_after ≡ output_after may frame out
-  pub told : after ≡ length_or before (written may n frame out)
+  pub told : after ≡ told_or before (written may e frame out)
 
 abbrev pub WritesGiven : ℕ → ℕ → List ℤ → List ℕ → ℕ → ℕ → List ℕ → ℕ → Type 0
 WritesGiven kind code vs =

@@ -3,24 +3,17 @@ ghost use Rattle.std.specs.Prelude.{◌≡◌};
 ghost use Rattle.row_writer.specs.Given.{is_status_row, is_row_of, is_row03, status_from, from02, from03, from05, clock_from};
 
 use crate::fits::{BYTE, WORD, byte_at, fit, fits_signed, temperature_at, value_at, word_at};
-use rules::{Clock, Frame, STATUS_VALUES, Sentence02, Sentence03, Sentence05, Status};
-
-// What a caller gives: a frame, or nothing, where no record can hold the values or there is no such kind.
-#[derive(Clone, Copy)]
-pub enum Given {
-    AFrame(Frame),
-    Nothing,
-}
+use rules::{Clock, STATUS_VALUES, Sentence02, Sentence03, Sentence05, Status};
 
 // Ten bytes, eight words, three bytes.
 #[tactic(auto, unfolding(crate::specs::Given::is_status_row))]
 pub(crate) fn is_status_row(values: &[i64]) -> bool
     ensures { result ≡ is_status_row values.now }
 {
-    if values.len() < STATUS_VALUES {
-        return false;
-    }
-    fit(&values[..10], BYTE) & fit(&values[10..18], WORD) & fit(&values[18..STATUS_VALUES], BYTE)
+    STATUS_VALUES <= values.len()
+        && fit(&values[..10], BYTE)
+        && fit(&values[10..18], WORD)
+        && fit(&values[18..STATUS_VALUES], BYTE)
 }
 
 // The same for a record of so many numbers, each up to the same limit.
@@ -28,20 +21,14 @@ pub(crate) fn is_status_row(values: &[i64]) -> bool
 pub(crate) fn is_row(values: &[i64], count: usize, limit: u32) -> bool
     ensures { result ≡ is_row_of count limit values.now }
 {
-    if values.len() < count {
-        return false;
-    }
-    fit(&values[..count], limit)
+    count <= values.len() && fit(&values[..count], limit)
 }
 
 #[tactic(auto, unfolding(crate::specs::Given::is_row03))]
 pub(crate) fn is_row03(values: &[i64]) -> bool
     ensures { result ≡ is_row03 values.now }
 {
-    if values.len() < 9 {
-        return false;
-    }
-    fit(&values[..8], WORD) & fits_signed(value_at(values, 8))
+    9 <= values.len() && fit(&values[..8], WORD) && fits_signed(values[8])
 }
 
 #[tactic(auto, unfolding(crate::specs::Given::clock_from))]

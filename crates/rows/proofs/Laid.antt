@@ -1,18 +1,23 @@
--- Laws of numbers laid at a place: at the front they are a row there, and what is laid behind the first numbers of a row makes
--- them longer.
+-- A row that is laid as its heading and the values behind it.
 -- Assumes nothing.
+use Prim.Native.Nat.{ℕ, ◌+◌, ◌≤◌}
 use mathlib.Core.Path.{◌≡◌}
 use mathlib.Core.List.{List, ◌++◌, append_assoc}
-use native.Mathlib.Nat.{zero-add}
+use native.Mathlib.Omega.{arith}
 use lib.IntN.{ℤ}
-use lib.ListN.{length, length-append}
-use lib.Seq.{take-append_seam, drop-append-add, drop-drop}
-use Rattle.rows.specs.Rows.{front, laid_at}
+use lib.ListN.{length, drop, length-append}
+use lib.Seq.{drop-drop}
+use Rattle.rows.specs.Rows.{front, LaysRow}
+use Rattle.rows.proofs.Outcomes.{at_the_front}
 
-pub at_front : (r numbers : List ℤ) → laid_at 0 r numbers ≡ front r numbers
-unfolding laid_at front
-at_front r numbers = rw zero-add
+-- behind the heading's places are the values, and then what stood there
+spread : (heading values numbers : List ℤ) → heading ++ (values ++ drop (length values) (drop (length heading) numbers)) ≡ front (heading ++ values) numbers
+unfolding front
+spread heading values numbers = rw (append_assoc, length-append, drop-drop)
 
-pub laid_behind : (p q numbers : List ℤ) → laid_at (length p) q (laid_at 0 p numbers) ≡ front (p ++ q) numbers
-unfolding laid_at front
-laid_behind p q numbers = rw (zero-add, take-append_seam p _, drop-append-add p, drop-drop (length q) (length p) numbers, length-append, append_assoc p q)
+pub heading_and_values : (heading values behind numbers : List ℤ) (n : ℕ) → length values ≡ n → n ≤ length behind
+    → behind ≡ drop (length heading) numbers → length behind + length heading ≡ length numbers
+    → LaysRow (heading ++ values) numbers 0 (heading ++ (values ++ drop n behind))
+heading_and_values heading values behind numbers n count room is all =
+    let fits : length (heading ++ values) ≤ length numbers = rw length-append (omega arith) in
+    at_the_front fits (rw (is, ← count) (spread heading values numbers))

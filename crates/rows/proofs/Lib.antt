@@ -1,7 +1,7 @@
--- `Read` has what the reader of one frame answers by the tests of a frame as a whole, `Outcome` what the number tells of a frame
--- that was to be read and laid, and `Single` that the promise leaves one number and one row.
--- `Laid` has the laws of numbers laid at a place, `Outcomes` what each way out of a function that lays an answer shows, `Lengths`
--- how long a row is, and `Single` that what is promised of it leaves one answer and one content.
+-- `Read` has what the reader of one frame answers by what was found in its bytes, `Outcome` what the number tells of a frame
+-- that was to be read and laid, and `ReadSingle` that the promise leaves one number and one row.
+-- `Laid` has a row as its heading and the values behind it, `Outcomes` what each way out of a function that lays an answer shows,
+-- `Lengths` how long a row is, and `Single` that what is promised of it leaves one answer and one content.
 pub mod Read
 pub mod Outcome
 pub mod ReadSingle

@@ -1,60 +1,49 @@
--- What the reader of one frame answers, by the tests of a frame as a whole.
--- Each is the definition, computed by its tests. Assumes nothing.
+-- What the reader of one frame answers, by what was found in its bytes: the code of a packet, or the numbers of a report.
+-- Assumes nothing.
 use Prim.Native.Nat.{ℕ}
-use mathlib.Core.Path.{◌≡◌, ap, ◌∙◌}
-use mathlib.Core.Bool.{true, false}
+use Rattle.rules.specs.declared.Refusal.TheVariants.{NotGood}
+use Rattle.std.specs.Prelude.{Err, Ok, Some, None}
+use Rattle.std.specs.Bool.{then_some}
+use mathlib.Core.Path.{◌≡◌, refl, sym}
+use mathlib.Core.Bool.{Bool, true, false}
 use mathlib.Core.List.{List}
-use mathlib.Core.Logic.{⊎_elim}
 use lib.ListN.{get_or}
 use Rattle.rules.specs.Codes.{is_ack, is_command}
 use Rattle.rules.specs.Status.{is_status, status_in}
-use Rattle.rules.specs.Answers.{read_one, read_family1, read_family3, not_good, status_numbers}
+use Rattle.rules.specs.Answers.{read_one, read_family1, read_family3, status_numbers}
 use Rattle.rules.specs.declared.Frame.TheVariants.{Ack, Status, Command}
-use Rattle.rules.specs.declared.Reading.TheVariants.{Good, Refused}
-use Rattle.frame_laws.proofs.Bytes.{answer}
+use Rattle.spe.specs.Packets.{ack_in, command_in}
 use Rattle.spe.specs.Report.{numbers_in}
-use Rattle.spe.specs.declared.ReportNumbers.{ReportNumbers}
+
+-- what something that was found by a test tells, and what nothing tells
+found : {A : Type 0} (test : Bool) (x y : A) → Some y ≡ then_some test x → (test ≡ true) × (x ≡ y)
+found true x y e = (refl, cc)
+found false x y e = cc
+
+not_found : {A : Type 0} (test : Bool) (x : A) → None ≡ then_some test x → test ≡ false
+not_found true x e = cc
+not_found false x e = refl
 
 module _ (bs : List ℕ) where
-  pub an_ack : is_ack bs ≡ true → read_one 1 bs ≡ Good (Ack (get_or bs 4 0))
-  unfolding read_one read_family1
-  an_ack e = rw e
+  pub an_ack : (code : ℕ) → Some code ≡ ack_in bs → read_one 1 bs ≡ Ok (Ack code)
+  unfolding ack_in read_one read_family1
+  an_ack code e = let h = found (is_ack bs) (get_or bs 4 0) code e in rw (h.0, h.1)
 
-  pub a_report : is_ack bs ≡ false → is_status bs ≡ true → read_one 1 bs ≡ Good (Status (status_in bs))
-  unfolding read_one read_family1
-  a_report e d = rw (e, d)
+  pub a_report : (numbers : List ℕ) → None ≡ ack_in bs → Some numbers ≡ numbers_in bs
+      → (read_one 1 bs ≡ Ok (Status (status_in bs))) × (numbers ≡ status_numbers (status_in bs))
+  unfolding ack_in numbers_in read_one read_family1
+  a_report numbers none e =
+      let h = found (is_status bs) (status_numbers (status_in bs)) numbers e in
+      (rw (not_found (is_ack bs) (get_or bs 4 0) none, h.0), sym h.1)
 
-  pub no_reply : is_ack bs ≡ false → is_status bs ≡ false → read_one 1 bs ≡ Refused not_good
-  unfolding read_one read_family1
-  no_reply e d = rw (e, d)
+  pub no_reply : None ≡ ack_in bs → None ≡ numbers_in bs → read_one 1 bs ≡ Err NotGood
+  unfolding ack_in numbers_in read_one read_family1
+  no_reply none e = rw (not_found (is_ack bs) (get_or bs 4 0) none, not_found (is_status bs) (status_numbers (status_in bs)) e)
 
-  pub a_command : is_command bs ≡ true → read_one 3 bs ≡ Good (Command (get_or bs 4 0))
-  unfolding read_one read_family3
-  a_command e = rw e
+  pub a_command : (code : ℕ) → Some code ≡ command_in bs → read_one 3 bs ≡ Ok (Command code)
+  unfolding command_in read_one read_family3
+  a_command code e = let h = found (is_command bs) (get_or bs 4 0) code e in rw (h.0, h.1)
 
-  pub no_command : is_command bs ≡ false → read_one 3 bs ≡ Refused not_good
-  unfolding read_one read_family3
-  no_command e = rw e
-
-  -- what the numbers of a report tell
-  with_numbers : (r : ReportNumbers) → r ≡ numbers_in bs → is_status bs ≡ true → (r.good ≡ true) × (r.numbers ≡ status_numbers (status_in bs))
-  unfolding numbers_in
-  with_numbers r e d = (ap (λ (x : ReportNumbers). x.good) e ∙ rw d, ap (λ (x : ReportNumbers). x.numbers) e ∙ rw d)
-
-  without : (r : ReportNumbers) → r ≡ numbers_in bs → is_status bs ≡ false → r.good ≡ false
-  unfolding numbers_in
-  without r e d = ap (λ (x : ReportNumbers). x.good) e ∙ rw d
-
-  pub told_good : (r : ReportNumbers) → r ≡ numbers_in bs → r.good ≡ true → (is_status bs ≡ true) × (r.numbers ≡ status_numbers (status_in bs))
-  told_good r e good =
-      ⊎_elim
-      (λ (d : is_status bs ≡ true). (d, (with_numbers r e d).1))
-      (λ (d : is_status bs ≡ false). let z = without r e d in (cc, cc))
-      (answer (is_status bs))
-
-  pub told_none : (r : ReportNumbers) → r ≡ numbers_in bs → r.good ≡ false → is_status bs ≡ false
-  told_none r e none =
-      ⊎_elim
-      (λ (d : is_status bs ≡ true). let z = (with_numbers r e d).0 in cc)
-      (λ (d : is_status bs ≡ false). d)
-      (answer (is_status bs))
+  pub no_command : None ≡ command_in bs → read_one 3 bs ≡ Err NotGood
+  unfolding command_in read_one read_family3
+  no_command e = rw (not_found (is_command bs) (get_or bs 4 0) e)

@@ -1,16 +1,19 @@
 -- A frame, and what a call answers, as a row of numbers in lent memory: what a C program is handed. A row is its kind, its
 -- code, the bytes taken, the frame's start, the bytes skipped and its length, and behind these six the frame's values.
-use Rattle.std.specs.Prelude.{ℕ, ◌+◌, ◌≤◌, ◌%◌, ◌^◌, ◌≡◌, cond, List, [], ◌∷◌, ◌++◌, eqb, leb, ℤ, pos, length, take, drop}
+use Rattle.std.specs.Prelude.{ℕ, ◌+◌, ◌%◌, ◌^◌, ◌≡◌, cond, List, [], ◌∷◌, ◌++◌, eqb, leb, ℤ, pos, length, drop}
+use Rattle.rules.specs.Answers.{Read}
+use Rattle.rules.specs.declared.Refusal.{Refusal}
+use Rattle.stream_rules.specs.Streams.{said_to_turn}
+use Rattle.stream_rules.specs.declared.Progress.{Progress}
+use Rattle.stream_rules.specs.declared.Progress.TheVariants.{Done, More, Ready}
+use Rattle.rules.specs.Refusals.{no_room}
+use Rattle.std.specs.Prelude.{Err, Ok, Result}
 use Rattle.std.specs.Borrow.{MutBor}
 use denote.Triple.Both.{Both}
-use Rattle.rules.specs.Answers.{Says, no, yes, no_room, kind_of, status_values, values}
+use Rattle.rules.specs.Answers.{Says, no, yes, kind_of, status_values, values}
 use Rattle.rules.specs.declared.Frame.{Frame}
 use Rattle.rules.specs.declared.Kind.{Kind}
 use Rattle.rules.specs.declared.Kind.TheVariants.{OfAck, OfStatus, OfCommand, OfSentence, OfQuestion, OfResponse, OfLetters}
-use Rattle.rules.specs.declared.Reading.{Reading}
-use Rattle.rules.specs.declared.Reading.TheVariants.{Good, Refused as NotGood}
-use Rattle.stream_rules.specs.declared.Answer.{Answer}
-use Rattle.stream_rules.specs.declared.Answer.TheVariants.{Ready, More, Done, Refused}
 
 -- The first number of a row says what it is.
 abbrev pub ack_row : ℕ
@@ -75,10 +78,6 @@ counted n = pos (n % 2 ^ 63)
 abbrev pub heading : ℕ → ℕ → ℕ → ℕ → ℕ → ℕ → List ℤ
 heading kind code taken start skipped length = pos kind ∷ pos code ∷ counted taken ∷ pos start ∷ pos skipped ∷ counted length ∷ []
 
--- that there is room for them
-abbrev pub HeadingFits : List ℤ → Type 0
-HeadingFits numbers = heading_length ≤ length numbers
-
 abbrev pub row : ℕ → ℕ → ℕ → ℕ → Frame → List ℤ
 row taken start skipped length f = heading (kind_row (kind_of f)) (code_of (kind_of f)) taken start skipped length ++ values f
 
@@ -86,19 +85,19 @@ row taken start skipped length f = heading (kind_row (kind_of f)) (code_of (kind
 abbrev pub row_without : ℕ → ℕ → List ℤ
 row_without kind taken = heading kind 0 taken 0 0 0
 
-abbrev pub row_fed : Answer → List ℤ
-row_fed (Ready r) = row r.taken r.start r.skipped r.length r.frame
-row_fed (More n) = row_without more_row n
-row_fed (Done n) = row_without done_row n
-row_fed (Refused n) = []
+abbrev pub row_fed : (Result Progress Refusal) → List ℤ
+row_fed (Ok (Ready r)) = row r.taken r.start r.skipped r.length r.frame
+row_fed (Ok (More n)) = row_without more_row n
+row_fed (Ok (Done n)) = row_without done_row n
+row_fed (Err n) = []
 
 -- of what the reader of one frame answers, with the bytes taken, the start, the bytes skipped and the length of such a frame
-abbrev pub row_at : ℕ → ℕ → ℕ → ℕ → Reading → List ℤ
-row_at taken start skipped length (Good f) = row taken start skipped length f
-row_at taken start skipped length (NotGood n) = []
+abbrev pub row_at : ℕ → ℕ → ℕ → ℕ → Read → List ℤ
+row_at taken start skipped length (Ok f) = row taken start skipped length f
+row_at taken start skipped length (Err n) = []
 
 -- of a frame that is read alone, its length is that of the bytes
-abbrev pub row_read : ℕ → Reading → List ℤ
+abbrev pub row_read : ℕ → Read → List ℤ
 row_read length reading = row_at 0 0 0 length reading
 
 -- the number for no, and 0 for yes
@@ -106,13 +105,13 @@ abbrev pub refusal_of : Says → ℕ
 refusal_of (no n) = n
 refusal_of (yes kind vs) = 0
 
+-- The number of an outcome: its refusal's, or 0.
+abbrev pub outcome_number : Result Unit Refusal → ℕ
+outcome_number outcome = refusal_of (said_to_turn outcome)
+
 -- A row stands at the front of the numbers; those behind it are unchanged.
 unfoldable pub front : List ℤ → List ℤ → List ℤ
 front r numbers = r ++ drop (length r) numbers
-
--- The same from a place on, with the numbers before it unchanged.
-unfoldable pub laid_at : ℕ → List ℤ → List ℤ → List ℤ
-laid_at place r numbers = take place numbers ++ r ++ drop (place + length r) numbers
 
 -- The number that is given: refusal 4 where the row is longer than the lent numbers, else 0. An answer that is a refusal
 -- gives its own number, whatever is lent.
@@ -138,12 +137,12 @@ pub record Lays (answer : Says) (r numbers : List ℤ) (result : ℕ) (after : L
   pub content : after ≡ laid_content r numbers result
 
 -- Numbers that are lent to a function: as they are passed, and as they are left. And the same of a row and of an answer
--- in lent numbers.
+-- in lent numbers, by an outcome.
 abbrev pub LentNumbers : Type 0
 LentNumbers = Both (MutBor (List ℤ)) (MutBor (List ℤ))
 
-abbrev pub RowIn : LentNumbers → ℕ → List ℤ → Type 0
-RowIn numbers result r = LaysRow r numbers.entry.now result numbers.exit.now
+abbrev pub RowIn : LentNumbers → Result Unit Refusal → List ℤ → Type 0
+RowIn numbers result r = LaysRow r numbers.entry.now (outcome_number result) numbers.exit.now
 
-abbrev pub AnswerIn : LentNumbers → ℕ → Says → List ℤ → Type 0
-AnswerIn numbers result answer r = Lays answer r numbers.entry.now result numbers.exit.now
+abbrev pub AnswerIn : LentNumbers → Result Unit Refusal → Says → List ℤ → Type 0
+AnswerIn numbers result answer r = Lays answer r numbers.entry.now (outcome_number result) numbers.exit.now

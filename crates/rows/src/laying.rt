@@ -1,15 +1,17 @@
 // A frame, and what a call answers, as a row of numbers laid at the front of lent memory. The values
 // of a frame stand behind the row's first six numbers.
-ghost use Rattle.std.specs.Prelude.{◌≡◌, ◌++◌, map, pos, length, ◌+◌, ◌≤◌};
+ghost use Rattle.std.specs.Prelude.{◌≡◌, ◌++◌, ℤ, map, pos, length};
 ghost use Rattle.rules.specs.Answers.{said};
 ghost use Rattle.stream_rules.specs.Streams.{said_to_feed};
-ghost use Rattle.rows.specs.Rows.{heading_length, HeadingFits, kind_row, code_of, counted, heading, row, row_fed, row_at, laid_at, RowIn, AnswerIn};
+ghost use Rattle.rows.specs.Rows.{kind_row, code_of, counted, row, row_fed, row_at, RowIn, AnswerIn};
+ghost use Rattle.rows.specs.Headings.{heading_of, heading_without};
 
 use records::fields_of;
-use rules::{Frame, Kind, NO_ROOM, Reading, STATUS_VALUES};
-use stream_rules::Answer;
+use rules::{Frame, Kind, Reading, Refusal, STATUS_VALUES};
+use stream_rules::{Answer, Outcome, Progress};
 
-// The first number of a row: what kind of frame, or that more is wanted, or that all is done.
+// The first number of a row: what kind of frame, or that more is wanted, or that all is done. They are numbers and
+// not an enum, since a C program has them from c/amp.h, and passes them too.
 pub const ACK_ROW: u32 = 1;
 
 pub const STATUS_ROW: u32 = 2;
@@ -33,19 +35,22 @@ pub const HEADING_LENGTH: usize = 6;
 
 pub const LONGEST_ROW: usize = HEADING_LENGTH + STATUS_VALUES;
 
-// The refusal of a row that has no room.
-const HAS_NO_ROOM: u32 = NO_ROOM as u32;
+// How a frame arrives: the bytes that the call takes, the frame's start in the stream and the bytes skipped before it,
+// both modulo 2^32.
+#[derive(Clone, Copy)]
+pub struct Arrival {
+    pub taken: usize,
+    pub start: u32,
+    pub skipped: u32,
+}
 
-// The numbers from a place on.
-fn put_numbers(numbers: &mut [i64], at: usize, what: &[u32])
-    requires { at + length what.now ≤ length numbers.old }
-    ensures { numbers.new ≡ laid_at at (map pos what.now) numbers.old }
-{
-    let mut i = 0;
-    while i < what.len() {
-        numbers[at + i] = what[i] as i64;
-        i += 1;
-    }
+// What stands before a row's values: what it is, how the frame arrives, and the frame's length.
+#[derive(Clone, Copy)]
+pub struct Heading {
+    pub kind: u32,
+    pub code: u32,
+    pub arrival: Arrival,
+    pub length: usize,
 }
 
 // A count, modulo 2^63.
@@ -53,6 +58,72 @@ fn count(n: usize) -> i64
     ensures { result ≡ counted n }
 {
     (n % 0x8000_0000_0000_0000) as i64
+}
+
+impl Heading {
+    // Of a row without a frame, only the bytes taken are told.
+    pub fn without_frame(kind: u32, taken: usize) -> Heading
+        ensures { result ≡ heading_without kind taken }
+    {
+        Heading {
+            kind,
+            code: 0,
+            arrival: Arrival {
+                taken,
+                start: 0,
+                skipped: 0,
+            },
+            length: 0,
+        }
+    }
+
+    // The first six numbers of the row.
+    fn numbers(self) -> [i64; HEADING_LENGTH]
+        ensures { result ≡ heading_of self }
+    {
+        [
+            i64::from(self.kind),
+            i64::from(self.code),
+            count(self.arrival.taken),
+            i64::from(self.arrival.start),
+            i64::from(self.arrival.skipped),
+            count(self.length),
+        ]
+    }
+}
+
+// A value as a row holds it.
+pub trait RowNumber: Copy {
+    ghost number: { Self → ℤ };
+
+    fn number(self) -> i64
+        ensures { result ≡ number self };
+}
+
+impl RowNumber for u32 {
+    ghost number = { pos };
+
+    fn number(self) -> i64 {
+        i64::from(self)
+    }
+}
+
+impl RowNumber for i64 {
+    ghost number = { λ v. v };
+
+    fn number(self) -> i64 {
+        self
+    }
+}
+
+// Values in their places, of which there are as many.
+fn put<T: RowNumber>(places: &mut [i64], values: &[T])
+    requires { length places.old ≡ length values.now }
+    ensures { places.new ≡ map T.number values.now }
+{
+    for (i, value) in values.iter().enumerate() {
+        places[i] = value.number();
+    }
 }
 
 // The first number of the row of a frame of a kind.
@@ -75,156 +146,77 @@ fn code_of(kind: Kind) -> u32
     ensures { result ≡ code_of kind }
 {
     match kind {
-        Kind::OfAck(code) => code as u32,
-        Kind::OfStatus => 0,
-        Kind::OfCommand(code) => code as u32,
-        Kind::OfSentence(n) => n as u32,
-        Kind::OfQuestion(letters) => letters,
-        Kind::OfResponse(letters) => letters,
-        Kind::OfLetters(_) => 0,
+        Kind::OfAck(code) | Kind::OfCommand(code) => u32::from(code),
+        Kind::OfSentence(n) => u32::from(n),
+        Kind::OfQuestion(letters) | Kind::OfResponse(letters) => letters,
+        Kind::OfStatus | Kind::OfLetters(_) => 0,
     }
 }
 
-// The frame's values, behind the six numbers in front of them.
-fn put_values(numbers: &mut [i64], values: &[i64])
-    requires { heading_length + length values.now ≤ length numbers.old }
-    ensures { numbers.new ≡ laid_at heading_length values.now numbers.old }
+// A row with these values behind its heading. Refusal 4 where it has no room.
+pub fn lay_values<T: RowNumber>(heading: Heading, values: &[T], numbers: &mut [i64]) -> Outcome
+    ensures { RowIn numbers result (heading_of heading ++ map T.number values.now) }
 {
-    let mut i = 0;
-    while i < values.len() {
-        numbers[HEADING_LENGTH + i] = values[i];
-        i += 1;
+    if numbers.len() < HEADING_LENGTH {
+        return Err(Refusal::NoRoom);
     }
+    let (front, behind) = numbers.split_at_mut(HEADING_LENGTH);
+    if behind.len() < values.len() {
+        return Err(Refusal::NoRoom);
+    }
+    put(front, &heading.numbers());
+    put(&mut behind[..values.len()], values);
+    Ok(())
 }
 
-// The first six numbers of a row.
-fn put_heading(
-    numbers: &mut [i64],
-    kind: u32,
-    code: u32,
-    taken: usize,
-    start: u32,
-    skipped: u32,
-    length: usize,
-)
-    requires { HeadingFits numbers.old }
-    ensures { numbers.new ≡ laid_at 0 (heading kind code taken start skipped length) numbers.old }
+// A row that has no values: its six numbers, with the same refusal.
+pub fn lay_heading(heading: Heading, numbers: &mut [i64]) -> Outcome
+    ensures { RowIn numbers result (heading_of heading) }
 {
-    let what = [kind, code, 0, start, skipped, 0];
-    put_numbers(numbers, 0, &what);
-    numbers[2] = count(taken);
-    numbers[5] = count(length);
+    lay_values::<u32>(heading, &[], numbers)
 }
 
-// The row of a frame. Refusal 4 where it has no room.
-fn lay_frame(
-    frame: Frame,
-    taken: usize,
-    start: u32,
-    skipped: u32,
-    length: usize,
-    numbers: &mut [i64],
-) -> u32
-    ensures { RowIn numbers result (row taken start skipped length frame) }
+// The row of a frame, with the same refusal.
+fn lay_frame(frame: Frame, arrival: Arrival, length: usize, numbers: &mut [i64]) -> Outcome
+    ensures { RowIn numbers result (row arrival.taken arrival.start arrival.skipped length frame) }
 {
     let told = fields_of(frame);
-    let kind = told.kind;
-    let count = told.count;
-    let values = told.values;
-    if numbers.len() < HEADING_LENGTH + count {
-        return HAS_NO_ROOM;
-    }
-    put_heading(
-        numbers,
-        kind_row(kind),
-        code_of(kind),
-        taken,
-        start,
-        skipped,
+    let heading = Heading {
+        kind: kind_row(told.kind),
+        code: code_of(told.kind),
+        arrival,
         length,
-    );
-    put_values(numbers, &values[..count]);
-    0
-}
-
-// A row that has no values: its six numbers. Refusal 4 where they have no room.
-pub fn lay_heading(
-    kind: u32,
-    code: u32,
-    taken: usize,
-    start: u32,
-    skipped: u32,
-    length: usize,
-    numbers: &mut [i64],
-) -> u32
-    ensures { RowIn numbers result (heading kind code taken start skipped length) }
-{
-    if numbers.len() < HEADING_LENGTH {
-        return HAS_NO_ROOM;
-    }
-    put_heading(numbers, kind, code, taken, start, skipped, length);
-    0
-}
-
-// A row with these values, with the same refusal.
-pub fn lay_values(
-    kind: u32,
-    code: u32,
-    taken: usize,
-    start: u32,
-    skipped: u32,
-    length: usize,
-    values: &[u32],
-    numbers: &mut [i64],
-) -> u32
-    ensures { RowIn numbers result (heading kind code taken start skipped length ++ map pos values.now) }
-{
-    if numbers.len() < HEADING_LENGTH {
-        return HAS_NO_ROOM;
-    }
-    if numbers.len() - HEADING_LENGTH < values.len() {
-        return HAS_NO_ROOM;
-    }
-    put_heading(numbers, kind, code, taken, start, skipped, length);
-    put_numbers(numbers, HEADING_LENGTH, values);
-    0
+    };
+    lay_values(heading, &told.values[..told.count], numbers)
 }
 
 // What a call on a stream answered.
-pub fn lay_answer(answer: Answer, numbers: &mut [i64]) -> u32
+pub fn lay_answer(answer: Answer, numbers: &mut [i64]) -> Outcome
     ensures { AnswerIn numbers result (said_to_feed answer) (row_fed answer) }
 {
     match answer {
-        Answer::Ready(ready) => {
-            let frame = ready.frame;
-            lay_frame(
-                frame,
-                ready.taken,
-                ready.start,
-                ready.skipped,
-                ready.length,
-                numbers,
-            )
+        Ok(Progress::Ready(ready)) => {
+            let arrival = Arrival {
+                taken: ready.taken,
+                start: ready.start,
+                skipped: ready.skipped,
+            };
+            lay_frame(ready.frame, arrival, ready.length, numbers)
         }
-        Answer::More(taken) => lay_heading(MORE_ROW, 0, taken, 0, 0, 0, numbers),
-        Answer::Done(taken) => lay_heading(DONE_ROW, 0, taken, 0, 0, 0, numbers),
-        Answer::Refused(n) => n as u32,
+        Ok(Progress::More(taken)) => lay_heading(Heading::without_frame(MORE_ROW, taken), numbers),
+        Ok(Progress::Done(taken)) => lay_heading(Heading::without_frame(DONE_ROW, taken), numbers),
+        Err(refusal) => Err(refusal),
     }
 }
 
-// What a reader of one frame answered, as the row of a frame of that length that was handed out so.
+// What a reader of one frame answered, as the row of a frame of that length that arrives so.
 pub fn lay_reading(
     reading: Reading,
-    taken: usize,
-    start: u32,
-    skipped: u32,
+    arrival: Arrival,
     length: usize,
     numbers: &mut [i64],
-) -> u32
-    ensures { AnswerIn numbers result (said reading) (row_at taken start skipped length reading) }
+) -> Outcome
+    ensures { AnswerIn numbers result (said reading) (row_at arrival.taken arrival.start arrival.skipped length reading) }
 {
-    match reading {
-        Reading::Good(frame) => lay_frame(frame, taken, start, skipped, length, numbers),
-        Reading::Refused(n) => n as u32,
-    }
+    lay_frame(reading?, arrival, length, numbers)
 }

@@ -6,5 +6,6 @@ pub mod Codes
 pub mod Status
 pub mod Sentences
 pub mod Messages
+pub mod Refusals
 pub mod Answers
 pub mod Form

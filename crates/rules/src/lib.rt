@@ -3,8 +3,11 @@
 // documents 01 and 02 that more than one room needs, each here once.
 #![tactic(auto)]
 
+ghost use Rattle.std.specs.Prelude.{◌≡◌};
+ghost use Rattle.rules.specs.Refusals.{number_for};
+
 // The families: replies of an SPE amplifier, sentences of the Alpha 9500, commands to an SPE amplifier, messages to and from
-// a KPA1500.
+// a KPA1500. (Numbers and no enum: a caller may give any number, C too, and is refused by number 1.)
 pub const REPLIES: u8 = 1;
 
 pub const SENTENCES: u8 = 2;
@@ -13,22 +16,34 @@ pub const COMMANDS: u8 = 3;
 
 pub const MESSAGES: u8 = 4;
 
-// The numbers for no.
-pub const NO_FAMILY: u8 = 1;
+// Why a call is refused, by document 01's numbers for no, from 1 on.
+#[derive(Clone, Copy, PartialEq, Eq)]
+pub enum Refusal {
+    NoFamily = 1,
+    NoCode,
+    NoRecord,
+    NoRoom,
+    IsClosed,
+    HoldsTooMuch,
+    TooLong,
+    NotGood,
+}
 
-pub const NO_CODE: u8 = 2;
+impl From<Refusal> for u8 {
+    ghost from_gives = { λ e n. n ≡ number_for e };
 
-pub const NO_RECORD: u8 = 3;
+    fn from(refusal: Refusal) -> u8 {
+        refusal as u8
+    }
+}
 
-pub const NO_ROOM: u8 = 4;
+impl From<Refusal> for u32 {
+    ghost from_gives = { λ e n. n ≡ number_for e };
 
-pub const IS_CLOSED: u8 = 5;
-
-pub const HOLDS_TOO_MUCH: u8 = 6;
-
-pub const TOO_LONG: u8 = 7;
-
-pub const NOT_GOOD: u8 = 8;
+    fn from(refusal: Refusal) -> u32 {
+        refusal as u32
+    }
+}
 
 // An SPE packet: its mark, by the way that it goes, three times; a count; what it counts; a checksum.
 pub const REPLY_MARK: u8 = 0xAA;
@@ -70,7 +85,8 @@ pub const SHORTEST_MESSAGE: usize = 3;
 
 pub const LONGEST_MESSAGE: usize = 40;
 
-// The listed letters of messages, each as one number: their bytes, the first the highest.
+// The listed letters of messages, each as one number: their bytes, the first the highest. (Numbers and no enum: a row has
+// them so, and any others may stand there.)
 pub const SN: u32 = 0x534E;
 
 pub const RV: u32 = 0x5256;
@@ -140,7 +156,8 @@ pub struct Status {
     pub combiner: u32,
     pub warning: u8,
     pub alarm: u8,
-    // 1 where a comma stands between the checksum and the line end, else 0
+    // 1 where a comma stands between the checksum and the line end, else 0 (a number and no flag: a caller may give another,
+    // and such a record is refused by number 3)
     pub comma: u8,
 }
 
@@ -206,7 +223,8 @@ pub struct Clock {
 }
 
 // Up to 38 capital letters, four to a number: their bytes, the first the highest. The number in which they end holds
-// those that are left, and the numbers behind it are 0.
+// those that are left, and the numbers behind it are 0. (Ten fields and no array: the theorem that every kind's words have
+// room in a line, listings/proofs/Room.antt, goes by there being ten, and a list in a definition has any length.)
 #[derive(Clone, Copy)]
 pub struct Letters {
     pub first: u32,
@@ -272,15 +290,7 @@ pub enum Kind {
 }
 
 // The answer of a reader of one frame.
-#[derive(Clone, Copy)]
-pub enum Reading {
-    Good(Frame),
-    Refused(u8),
-}
+pub type Reading = Result<Frame, Refusal>;
 
 // The answer of a writer: how many bytes it wrote.
-#[derive(Clone, Copy)]
-pub enum Written {
-    Length(usize),
-    Refused(u8),
-}
+pub type Written = Result<usize, Refusal>;

@@ -7,6 +7,7 @@ use mathlib.Core.List.{List}
 use native.Mathlib.Decide.{dec_lt, ℕ_discrete}
 use native.Mathlib.Omega.{arith}
 use lib.ListN.{length, take, drop}
+use Rattle.std.specs.Prelude.{Some, None}
 use Rattle.rules.specs.Status.{report_length_in}
 use Rattle.rules.specs.Answers.{read_one}
 use Rattle.rules.specs.declared.Frame.{Frame}
@@ -38,21 +39,21 @@ module _ (family : ℕ) (s : List ℕ) (p : Stop) (stops : Stops family s 0 0 p)
   within = stops.walks.within (omega arith)
 
   -- how far the bytes reach that settled them and a frame there
-  counted : (f : Frame) → GoodHead family (drop p.at s) p.length f → max p.reach (p.at + p.length) ≡ reach family (suc p.at) s
+  counted : (n : ℕ) (f : Frame) → GoodHead family (drop p.at s) n f → max p.reach (p.at + n) ≡ reach family (suc p.at) s
   unfolding reach
-  counted f g =
+  counted n f g =
       let same : SameFor p.at p.reach (reach family p.at s) = stops.walks.reaches refl in
       omega (arith, same, g.long, shortest_of_all family, g.settles)
 
-  pub ready : (f : Frame) (r : ℕ) → head family (drop p.at s) ≡ good p.length f → r ≡ max p.reach (p.at + p.length)
-      → Ready (record { start = p.at; length = p.length; reach = r; frame = f }) ≡ sought_in family s
+  pub ready : (n : ℕ) (f : Frame) (r : ℕ) → head family (drop p.at s) ≡ good n f → r ≡ max p.reach (p.at + n)
+      → Ready (record { start = p.at; length = n; reach = r; frame = f }) ≡ sought_in family s
   unfolding sought_in
-  ready f r here is =
-      ap (λ (n : ℕ). Ready (record { start = p.at; length = p.length; reach = n; frame = f })) (is ∙ counted f (good_head family (drop p.at s) p.length f here))
-      ∙ ap (answer family s) (sym (look_at_good (facts family) s p.at p.length f before here))
+  ready n f r here is =
+      ap (λ (to : ℕ). Ready (record { start = p.at; length = n; reach = to; frame = f })) (is ∙ counted n f (good_head family (drop p.at s) n f here))
+      ∙ ap (answer family s) (sym (look_at_good (facts family) s p.at n f before here))
 
   -- an undecided start, or the end
-  pub waiting : p.length ≡ 0 → Waiting p.at ≡ sought_in family s
+  pub waiting : p.length ≡ None → Waiting p.at ≡ sought_in family s
   unfolding sought_in
   waiting none =
       elim (dec_lt p.at (length s)) [
@@ -63,14 +64,14 @@ module _ (family : ℕ) (s : List ℕ) (p : Stop) (stops : Stops family s 0 0 p)
       ]
 
   -- bytes that are refused: the walk goes on behind the stop
-  pub onward : (p.length ≡ 0 → ⊥) → head_of p.length (read_one family (take p.length (drop p.at s))) ≡ bad → (far : ℕ) → far ≡ max p.reach (p.at + p.length)
+  pub onward : (n : ℕ) → p.length ≡ Some n → head_of n (read_one family (take n (drop p.at s))) ≡ bad → (far : ℕ) → far ≡ max p.reach (p.at + n)
       → (q : Stop) → Stops family s (p.at + 1) far q → Stops family s 0 0 q
-  onward some refused far to q next =
-      let whole = stops.found.whole some in
-      let there = whole_there family s p.at p.length whole in
+  onward n some refused far to q next =
+      let whole = stops.found.whole n some in
+      let there = whole_there family s p.at n whole in
       record {
         walks = followed family s 0 0 (p.at + 1) far q.at q.reach
-            (goes_on family s 0 0 p.at p.reach far p.length stops.walks (omega (arith, there.0, there.1)) (refused_whole family s p.at p.length whole refused) to)
+            (goes_on family s 0 0 p.at p.reach far n stops.walks (omega (arith, there.0, there.1)) (refused_whole family s p.at n whole refused) to)
             next.walks;
         found = next.found;
       }
@@ -90,10 +91,10 @@ module _ (bs : List ℕ) (b : Begun bs) where
   needed : needs 1 bs ≡ report_length_in bs
   needed = needs_report 1 bs refl b.count
 
-  pub begun_waits : length bs < report_length_in bs → Stops 1 bs 0 0 (record { at = 0; length = 0; reach = 0 })
+  pub begun_waits : length bs < report_length_in bs → Stops 1 bs 0 0 (record { at = 0; length = None; reach = 0 })
   begun_waits few = stops_waiting 1 bs 0 0 0 0 (begins 1 bs 0 0) (bytes_missing 1 refl bs b.there marks (report_length_in bs) needed few)
 
-  pub begun_whole : report_length_in bs ≤ length bs → Stops 1 bs 0 0 (record { at = 0; length = report_length_in bs; reach = 0 })
+  pub begun_whole : report_length_in bs ≤ length bs → Stops 1 bs 0 0 (record { at = 0; length = Some (report_length_in bs); reach = 0 })
   begun_whole enough =
       stops_to_read 1 bs 0 0 0 0 (report_length_in bs) (begins 1 bs 0 0)
       (all_there 1 refl bs b.there marks (report_length_in bs) needed (omega arith) enough)

@@ -2,6 +2,7 @@
 -- by what was seen.
 -- By the tests of the definitions: a good frame is settled by as many bytes as it has. Assumes nothing.
 use Prim.Native.Nat.{ℕ, ◌+◌, ◌≤◌, ◌<◌}
+use Rattle.std.specs.Prelude.{Ok}
 use mathlib.Core.Path.{◌≡◌, refl, sym, ap, subst⁻¹, ◌∙◌}
 use mathlib.Core.Bool.{Bool, true, false, ◌&&◌, cond, not, and-false, false≢true}
 use mathlib.Core.List.{List}
@@ -14,7 +15,6 @@ use lib.ListN.{length, take, get_or}
 use Rattle.rules.specs.Codes.{packet_length}
 use Rattle.rules.specs.Answers.{read_one}
 use Rattle.rules.specs.declared.Frame.{Frame}
-use Rattle.rules.specs.declared.Reading.TheVariants.{Good}
 use Rattle.frame_laws.proofs.Bytes.{answer, both_left, both_pass}
 use Rattle.stream_rules.specs.Heads.{is_spe, brackets_of, around, wait, bad, good, mark_of, needs, length_at, undecided as waits, head_of, head}
 use Rattle.stream_rules.specs.declared.Brackets.{Brackets}
@@ -100,7 +100,7 @@ module _ (family : ℕ) (bs : List ℕ) where
       let g : GoodHead family bs declared f = good_head family bs declared f is in
       both_pass _ _ (eq-eqb (settled family bs) declared g.settles) (closed_off (number family) f g.read)
     where
-      closed_off : Number family → (f : Frame) → read_one family (take declared bs) ≡ Good f → is_closed_off family bs ≡ true
+      closed_off : Number family → (f : Frame) → read_one family (take declared bs) ≡ Ok f → is_closed_off family bs ≡ true
       closed_off (of_packets spe) f e = rw spe
       closed_off (of_brackets k) f e = let h = k.good_start bs declared f e in rw k.no_spe (eq-eqb _ _ h.closes)
 

@@ -1,6 +1,8 @@
 -- Bytes that are no good frame of an SPE family, and what they say of a head.
 -- Assumes nothing.
 use Prim.Native.Nat.{ℕ, ◌≤◌, ◌<◌}
+use Rattle.rules.specs.Answers.{Read}
+use Rattle.std.specs.Prelude.{Err, Ok}
 use mathlib.Core.Path.{◌≡◌, refl, ◌∙◌}
 use mathlib.Core.Bool.{true, false}
 use mathlib.Core.List.{List}
@@ -10,8 +12,6 @@ use lib.ListN.{length}
 use Rattle.rules.specs.Answers.{is_good, read_one}
 use Rattle.rules.specs.Codes.{is_ack}
 use Rattle.rules.specs.Status.{is_status}
-use Rattle.rules.specs.declared.Reading.{Reading}
-use Rattle.rules.specs.declared.Reading.TheVariants.{Good, Refused}
 use Rattle.spe.proofs.PacketFrames.{not_command}
 use Rattle.frames.proofs.Goods.{command_is, ack_is, report_is}
 use Rattle.stream_rules.specs.Heads.{is_spe, bad, head_of}
@@ -31,6 +31,6 @@ module _ (family : ℕ) (spe : is_spe family ≡ true) (s : List ℕ) where
       ⊎_elim (λ one. rw one (ack_is s short ∙ e)) (λ three. absurd (no-host three)) (spe_cases family spe)
 
 -- bytes that are no good frame: no head is good by them
-pub not_good : (r : Reading) → is_good r ≡ false → (n : ℕ) → head_of n r ≡ bad
-not_good (Good f) e n = cc
-not_good (Refused number) e n = refl
+pub not_good : (r : Read) → is_good r ≡ false → (n : ℕ) → head_of n r ≡ bad
+not_good (Ok f) e n = cc
+not_good (Err number) e n = refl

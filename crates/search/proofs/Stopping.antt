@@ -2,7 +2,7 @@
 -- stands where it stops.
 -- Assumes nothing.
 use Prim.Native.Nat.{ℕ, zero, suc, max, ◌+◌, ◌-◌, ◌≤◌, ◌<◌}
-use mathlib.Core.Path.{◌≡◌, refl, sym, ap, subst, ◌∙◌}
+use mathlib.Core.Path.{◌≡◌, sym, ap, subst, ◌∙◌}
 use mathlib.Core.Bool.{true}
 use mathlib.Core.List.{List}
 use native.Mathlib.Decide.{dec_lt, ℕ_discrete}
@@ -11,6 +11,7 @@ use native.Mathlib.Numerals.{add-one}
 use native.Mathlib.Omega.{arith}
 use lib.ListN.{length, take, drop, length-drop}
 use lib.Seq.{drop-drop}
+use Rattle.std.specs.Prelude.{Option, Some, None}
 use Rattle.rules.specs.Answers.{read_one}
 use Rattle.stream_rules.specs.Heads.{is_spe, shortest_frame, mark_of, wait, bad, head_of, head}
 use Rattle.stream_laws.specs.Settled.{settled, reach}
@@ -131,16 +132,15 @@ module _ (family : ℕ) (bs : List ℕ) where
   refused_whole at n h e = (h.0 ∙ e, h.1)
 
   -- the stops of a walk: an undecided start, the end, and bytes to read
-  stops : (from far at on long : ℕ) → Walks family bs from far at on → AtStop family bs (record { at = at; length = long; reach = on })
+  stops : (from far at on : ℕ) (long : Option ℕ) → Walks family bs from far at on → AtStop family bs (record { at = at; length = long; reach = on })
       → Stops family bs from far (record { at = at; length = long; reach = on })
   stops from far at on long w f = record { walks = w; found = f }
 
-  pub stops_waiting : (from far at on : ℕ) → Walks family bs from far at on → head family (drop at bs) ≡ wait → Stops family bs from far (record { at = at; length = 0; reach = on })
-  stops_waiting from far at on w e = stops from far at on 0 w (record { waits = λ none there. e; whole = λ some. absurd (some refl) })
+  pub stops_waiting : (from far at on : ℕ) → Walks family bs from far at on → head family (drop at bs) ≡ wait → Stops family bs from far (record { at = at; length = None; reach = on })
+  stops_waiting from far at on w e = stops from far at on None w (record { waits = λ none there. e; whole = λ n some. (cc, cc) })
 
-  pub stops_at_end : (from far at on : ℕ) → Walks family bs from far at on → length bs ≤ at → Stops family bs from far (record { at = at; length = 0; reach = on })
-  stops_at_end from far at on w end = stops from far at on 0 w (record { waits = λ none there. absurd (omega arith); whole = λ some. absurd (some refl) })
+  pub stops_at_end : (from far at on : ℕ) → Walks family bs from far at on → length bs ≤ at → Stops family bs from far (record { at = at; length = None; reach = on })
+  stops_at_end from far at on w end = stops from far at on None w (record { waits = λ none there. absurd (omega arith); whole = λ n some. (cc, cc) })
 
-  pub stops_to_read : (from far at on n : ℕ) → Walks family bs from far at on → WholeAt at n → Stops family bs from far (record { at = at; length = n; reach = on })
-  stops_to_read from far at on n w h =
-      stops from far at on n w (record { waits = λ none there. absurd (omega (arith, (whole_there at n h).0)); whole = λ some. h })
+  pub stops_to_read : (from far at on n : ℕ) → Walks family bs from far at on → WholeAt at n → Stops family bs from far (record { at = at; length = Some n; reach = on })
+  stops_to_read from far at on n w h = stops from far at on (Some n) w (record { waits = λ none there. cc; whole = λ m is. let same : n ≡ m = cc in subst (WholeAt at) same h })

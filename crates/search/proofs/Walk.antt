@@ -2,7 +2,7 @@
 -- on right behind it.
 -- Assumes nothing.
 use Prim.Native.Nat.{ℕ, zero, suc, ◌+◌, ◌-◌, ◌*◌, ◌≤◌, ◌<◌}
-use mathlib.Core.Path.{◌≡◌, refl, sym, ap, subst₃, ◌∙◌}
+use mathlib.Core.Path.{◌≡◌, refl, sym, ap, subst, ◌∙◌}
 use mathlib.Core.List.{List, [], ◌∷◌}
 use native.Mathlib.Nat.{zero-add, add_assoc, mul-zero, mul-suc}
 use native.Mathlib.Omega.{arith}
@@ -17,7 +17,7 @@ use Rattle.stream_laws.proofs.Heads.{GoodHead, good_head}
 use Rattle.stream_laws.proofs.Families.{facts}
 use Rattle.search.specs.Sought.{first_from}
 use Rattle.search.specs.declared.First.{First}
-use Rattle.search.specs.declared.First.TheVariants.{At, Nothing}
+use Rattle.std.specs.Prelude.{Option, Some, None}
 
 -- what is left to list from a place on
 abbrev pub left : ℕ → List ℕ → ℕ → List Found
@@ -51,25 +51,24 @@ module _ (family : ℕ) (bs : List ℕ) (at : ℕ) where
             ∙ ap (λ (m : ℕ). found (at + k) k n f ∷ rule (head family) 0 m 0 (drop m bs)) (sym (add_assoc at k n));
       }
 
-  pub next : (start long : ℕ) (f : Frame) → first_from family bs at ≡ At start long f → Next family bs at start long f
+  pub next : (first : First) → first_from family bs at ≡ Some first → Next family bs at first.start first.length first.frame
   unfolding first_from
-  next start long f e = case (look (at_close (head family)) (drop at bs)) refl e
+  next first e = case (look (at_close (head family)) (drop at bs)) refl e
     where
       case : (l : Look) → look (at_close (head family)) (drop at bs) ≡ l
-          → by_look l (λ k n g behind. At (at + k) n g) (λ k rest. Nothing) ≡ At start long f → Next family bs at start long f
+          → by_look l (λ k n g behind. Some (record { start = at + k; length = n; frame = g })) (λ k rest. None) ≡ Some first
+          → Next family bs at first.start first.length first.frame
       case (waiting k rest) is p = let z : ◌≡◌ {A = ℕ} 0 1 = cc in absurd (omega arith)
       case (ready k n g behind) is p =
-          let same_start : at + k ≡ start = cc in
-          let same_length : n ≡ long = cc in
-          let same_frame : g ≡ f = cc in
-          subst₃ (Next family bs at) same_start same_length same_frame (from_look k n g behind is)
+          let same : record { start = at + k; length = n; frame = g } ≡ first = cc in
+          subst (λ (r : First). Next family bs at r.start r.length r.frame) same (from_look k n g behind is)
 
   -- Where there is none, nothing is left.
-  pub no_next : first_from family bs at ≡ Nothing → left family bs at ≡ []
+  pub no_next : first_from family bs at ≡ None → left family bs at ≡ []
   unfolding first_from
   no_next e = rule_drains (head family) (longest family) (facts family) (drop at bs) at 0 ∙ case (look (at_close (head family)) (drop at bs)) e
     where
-      case : (l : Look) → by_look l (λ k n g behind. At (at + k) n g) (λ k rest. Nothing) ≡ Nothing → drains (head family) at 0 l ≡ []
+      case : (l : Look) → ◌≡◌ {A = Option First} (by_look l (λ k n g behind. Some (record { start = at + k; length = n; frame = g })) (λ k rest. None)) None → drains (head family) at 0 l ≡ []
       case (waiting k rest) p = refl
       case (ready k n g behind) p = let z : ◌≡◌ {A = ℕ} 0 1 = cc in absurd (omega arith)
 
@@ -84,13 +83,13 @@ module _ (family : ℕ) (bs : List ℕ) where
   least at = shortest family * length (left family bs at)
 
   step : (fuel at : ℕ) → ((next_at : ℕ) → length bs < next_at + fuel → least next_at ≤ length bs - next_at)
-      → length bs < at + suc fuel → (x : First) → first_from family bs at ≡ x → least at ≤ length bs - at
-  step fuel at more h Nothing e = rw (no_next family bs at e, mul-zero) (omega arith)
-  step fuel at more h (At start long f) e =
-      let n : Next family bs at start long f = next family bs at start long f e in
-      let rest : least (start + long) ≤ length bs - (start + long) = more (start + long) (omega (arith, n.place, n.some)) in
-      let one_more : least at ≡ least (start + long) + shortest family =
-      ap (λ (fs : List Found). shortest family * length fs) n.lists ∙ mul-suc (shortest family) (length (left family bs (start + long))) in
+      → length bs < at + suc fuel → (x : Option First) → first_from family bs at ≡ x → least at ≤ length bs - at
+  step fuel at more h None e = rw (no_next family bs at e, mul-zero) (omega arith)
+  step fuel at more h (Some f) e =
+      let n = next family bs at f e in
+      let rest : least (f.start + f.length) ≤ length bs - (f.start + f.length) = more (f.start + f.length) (omega (arith, n.place, n.some)) in
+      let one_more : least at ≡ least (f.start + f.length) + shortest family =
+      ap (λ (fs : List Found). shortest family * length fs) n.lists ∙ mul-suc (shortest family) (length (left family bs (f.start + f.length))) in
       omega (arith, one_more, rest, n.long, n.there, n.place)
 
   from_there : (fuel at : ℕ) → length bs < at + fuel → least at ≤ length bs - at

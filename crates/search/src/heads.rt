@@ -43,10 +43,9 @@ pub(crate) fn examine_packet(family: u8, s: &[u8]) -> Seen
     if s.len() == 3 {
         return Seen::Undecided;
     }
-    let n = bytes_needed(family, s);
-    if n == 0 {
+    let Some(n) = bytes_needed(family, s) else {
         return Seen::Bad(4);
-    }
+    };
     if s.len() < n {
         return Seen::Undecided;
     }

@@ -6,13 +6,14 @@
 mod heads;
 
 ghost use Rattle.std.specs.Prelude.{◌≡◌, true, false, ◌≤◌, ◌<◌, length, get_or};
+ghost use Rattle.rules.specs.Bytes.{every};
 ghost use Rattle.rules.specs.Answers.{is_good, read_one};
 ghost use Rattle.stream_rules.specs.Heads.{is_spe};
-ghost use Rattle.search.specs.Sought.{sought_in, first_from, Unmarked, Stops};
+ghost use Rattle.search.specs.Sought.{sought_in, first_from, is_other, Unmarked, Stops};
 
 use crate::heads::{Seen, examine_bracketed, examine_packet};
 use frames::read_frame;
-use rules::{COMMANDS, Frame, REPLIES, REPORT_LENGTH, Reading};
+use rules::{COMMANDS, Frame, REPLIES, REPORT_LENGTH};
 use spe::{ends_report, is_ack, is_command};
 use starts::{brackets_of, is_spe, mark_of};
 use texts::further;
@@ -27,7 +28,7 @@ pub struct Hit {
     pub frame: Frame,
 }
 
-// The first start that is not bad: a good frame, or the place of an undecided one.
+// The first start that is not bad: a good frame, or the place of an undecided one. (No `Result`: an undecided start is no failure.)
 #[derive(Clone, Copy)]
 pub enum Sought {
     Ready(Hit),
@@ -36,9 +37,10 @@ pub enum Sought {
 
 // The first good frame: its place, its length, and what it says.
 #[derive(Clone, Copy)]
-pub enum First {
-    At(usize, usize, Frame),
-    Nothing,
+pub struct First {
+    pub start: usize,
+    pub length: usize,
+    pub frame: Frame,
 }
 
 // True only of bytes that are no good packet or report: an end that is not a report's, or a code that is not
@@ -58,11 +60,11 @@ fn ruled_out(family: u8, s: &[u8]) -> bool
 
 // A start that is not passed over: its place, the length of the frame that may stand there, and how far the
 // bytes reach that settled the starts before it, exact where that is behind the bytes that even the shortest
-// frame there has. The length is 0 where the start is undecided, or the bytes end.
+// frame there has. There is no length where the start is undecided, or the bytes end.
 #[derive(Clone, Copy)]
 pub struct Stop {
     pub at: usize,
-    pub length: usize,
+    pub length: Option<usize>,
     pub reach: usize,
 }
 
@@ -89,21 +91,17 @@ fn passed_with(left: usize) -> usize
     1
 }
 
-// True only where no mark stands in a block of 16 bytes.
+// True only where no mark stands in a block of 16 bytes. All its bytes are looked at, so that the compiler makes vector
+// code of it.
 fn no_mark(mark: u8, block: &[u8]) -> bool
     requires { length block.now ≡ 16 }
     ensures { result ≡ true → Unmarked mark block.now 0 16 }
 {
-    let mut none = true;
-    let mut i = 0;
-    while i < 16 {
-        none = none & (block[i] != mark);
-        i += 1;
-    }
-    none
+    block.iter().fold(true, |none, b| none & (*b != mark))
 }
 
-// A place behind whole blocks without a mark: no frame starts in them. Only among replies is one looked for.
+// A place behind whole blocks without a mark: no frame starts in them. Only among replies is one looked for. (By the
+// library's `as_chunks` the archive would not have the form that docs/TARGETS.md asks for.)
 fn past_unmarked(family: u8, mark: u8, s: &[u8], from: usize) -> usize
     requires { from ≤ length s.now }
     ensures { (from ≤ result) × (result ≤ length s.now) × Unmarked mark s.now from result }
@@ -129,6 +127,7 @@ fn packet_stop(family: u8, s: &[u8], from: usize, far: usize) -> Stop
     let mark = mark_of(family);
     let mut at = from;
     let mut reach = far;
+    // a step is as long as what it passes, so that no iterator counts the places
     while at < s.len() {
         if mark_for_count(mark, &s[at..]) {
             at += 1; // three marks may begin at the next byte
@@ -137,24 +136,24 @@ fn packet_stop(family: u8, s: &[u8], from: usize, far: usize) -> Stop
         match examine_packet(family, &s[at..]) {
             Seen::Whole(length) => {
                 if !ruled_out(family, &s[at..at + length]) {
-                    return Stop { at, length, reach };
+                    return Stop {
+                        at,
+                        length: Some(length),
+                        reach,
+                    };
                 }
                 reach = further(reach, at + length);
                 at += 4; // its count is no mark
                 continue;
             }
-            Seen::Undecided => return Stop {
-                at,
-                length: 0,
-                reach,
-            },
+            Seen::Undecided => break,
             Seen::Bad(_) => {}
         }
         at = past_unmarked(family, mark, s, at + passed_with(s.len() - at));
     }
     Stop {
         at,
-        length: 0,
+        length: None,
         reach,
     }
 }
@@ -167,6 +166,7 @@ fn bracket_stop(family: u8, s: &[u8], from: usize, far: usize) -> Stop
 {
     let k = brackets_of(family);
     let mut at = from;
+    // a step is as long as what it passes, so that no iterator counts the places
     while at < s.len() {
         // most starts are bad by their first byte
         if s[at] != k.opening {
@@ -176,14 +176,10 @@ fn bracket_stop(family: u8, s: &[u8], from: usize, far: usize) -> Stop
         match examine_bracketed(family, k, &s[at..]) {
             Seen::Whole(length) => return Stop {
                 at,
-                length,
+                length: Some(length),
                 reach: far,
             },
-            Seen::Undecided => return Stop {
-                at,
-                length: 0,
-                reach: far,
-            },
+            Seen::Undecided => break,
             Seen::Bad(d) => {
                 at += d - 1;
             }
@@ -191,7 +187,7 @@ fn bracket_stop(family: u8, s: &[u8], from: usize, far: usize) -> Stop
     }
     Stop {
         at,
-        length: 0,
+        length: None,
         reach: far,
     }
 }
@@ -212,10 +208,10 @@ pub fn seek(family: u8, s: &[u8]) -> Sought
     ensures { result ≡ sought_in family s.now }
 {
     let mut stop = next_stop(family, s, 0, 0);
-    while stop.length != 0 {
+    // from stop to stop, which are as far apart as the bytes say
+    while let Some(length) = stop.length {
         let at = stop.at;
-        let length = stop.length;
-        if let Reading::Good(frame) = read_frame(family, &s[at..at + length]) {
+        if let Ok(frame) = read_frame(family, &s[at..at + length]) {
             return Sought::Ready(Hit {
                 start: at,
                 length,
@@ -229,20 +225,24 @@ pub fn seek(family: u8, s: &[u8]) -> Sought
 }
 
 // The first good frame from a place on, with nothing more to come.
-pub fn first_good(family: u8, s: &[u8], from: usize) -> First
+pub fn first_good(family: u8, s: &[u8], from: usize) -> Option<First>
     ensures { result ≡ first_from family s.now from }
 {
     let mut stop = next_stop(family, s, from, 0);
+    // from stop to stop, which are as far apart as the bytes say
     while stop.at < s.len() {
         let at = stop.at;
-        let length = stop.length;
         // an undecided start is no frame here
-        if length != 0 {
-            if let Reading::Good(frame) = read_frame(family, &s[at..at + length]) {
-                return First::At(at, length, frame);
+        if let Some(length) = stop.length {
+            if let Ok(frame) = read_frame(family, &s[at..at + length]) {
+                return Some(First {
+                    start: at,
+                    length,
+                    frame,
+                });
             }
         }
         stop = next_stop(family, s, at + 1, 0);
     }
-    First::Nothing
+    None
 }

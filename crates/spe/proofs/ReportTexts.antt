@@ -2,7 +2,7 @@
 -- A test is turned into bounds of the bytes, and `omega` compares the bounds. Assumes nothing.
 use Prim.Native.Nat.{ℕ, zero, suc, ◌+◌, ◌-◌, ◌*◌, ◌^◌, ◌≤◌}
 use mathlib.Core.Path.{◌≡◌, refl, sym, ap, ◌∙◌}
-use mathlib.Core.Bool.{Bool, true, false, ◌&&◌, ◌||◌, cond, and-true, and_assoc, and_comm, or_assoc, or-false, and-eq-true_iff, false≢true}
+use mathlib.Core.Bool.{Bool, true, false, ◌&&◌, ◌||◌, cond, and-true, and_assoc, and_comm, and-eq-true_iff, false≢true}
 use mathlib.Core.List.{List, [], ◌∷◌}
 use mathlib.Core.Logic.{⊎_elim}
 use native.Mathlib.Omega.{arith}
@@ -125,15 +125,6 @@ module _ (a b c : ℕ) where
       alike _ _
       (λ e. omega (arith, bounds))
       (λ e. let f : eqb b 48 ≡ true = rw e at k.1 in omega (arith, bounds))
-
--- a letter of two, and of three
-pub one_of_two : (a b c : ℕ) → (eqb a b || eqb a c) ≡ one_of (b ∷ c ∷ []) a
-unfolding one_of
-one_of_two a b c = simp or-false
-
-pub one_of_three : (a b c e : ℕ) → (eqb a b || eqb a c || eqb a e) ≡ one_of (b ∷ c ∷ e ∷ []) a
-unfolding one_of
-one_of_three a b c e = simp (or_assoc, or-false)
 
 -- a letter of some between two others
 pub letter_text : (letters : List ℕ) (low high a : ℕ) → every (between low high) letters ≡ true

@@ -13,40 +13,35 @@ const BEHIND_RETURN: usize = BEHIND_CHECKSUM + 1;
 pub fn begins_report(s: &[u8]) -> bool
     ensures { result ≡ begins_report s.now }
 {
-    if s.len() < 4 {
+    let [first, second, third, count, ..] = *s else {
         return false;
-    }
-    (s[0] == REPLY_MARK) & (s[1] == REPLY_MARK) & (s[2] == REPLY_MARK) & (s[3] == REPORT_COUNT)
+    };
+    (first == REPLY_MARK) & (second == REPLY_MARK) & (third == REPLY_MARK) & (count == REPORT_COUNT)
 }
 
-// 1 where a comma stands behind the checksum of a report that starts at the first byte, else 0.
+// 1 where a comma stands behind the checksum of a report that starts at the first byte, else 0. A number and no bool, as it
+// is the last value of a record (`Status::comma`).
 #[tactic(auto, unfolding(rules::specs::Status::comma_in))]
 pub fn comma_in(s: &[u8]) -> u8
     ensures { result ≡ comma_in s.now }
 {
-    if s.len() <= BEHIND_CHECKSUM {
-        return 0;
-    }
-    if s[BEHIND_CHECKSUM] == b',' {
-        return 1;
-    }
-    0
+    u8::from(s.len() > BEHIND_CHECKSUM && s[BEHIND_CHECKSUM] == b',')
 }
 
 // How many bytes such a report has.
 pub fn report_length(s: &[u8]) -> usize
     ensures { result ≡ report_length_in s.now }
 {
-    REPORT_LENGTH + comma_in(s) as usize
+    REPORT_LENGTH + usize::from(comma_in(s))
 }
 
 // Whether 0D 0A stand where such a report ends.
 pub fn ends_report(s: &[u8]) -> bool
     ensures { result ≡ ends_report s.now }
 {
-    let comma = comma_in(s) as usize;
+    let comma = usize::from(comma_in(s));
     if s.len() < REPORT_LENGTH + comma {
         return false;
     }
-    (s[BEHIND_CHECKSUM + comma] == 0x0D) & (s[BEHIND_RETURN + comma] == 0x0A)
+    (s[BEHIND_CHECKSUM + comma] == b'\r') & (s[BEHIND_RETURN + comma] == b'\n')
 }

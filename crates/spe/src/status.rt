@@ -6,7 +6,7 @@ ghost use Rattle.spe.specs.ReportTests.{all_follow, letters_good, limits_good, d
 
 use crate::ends::{begins_report, ends_report, report_length};
 use rules::DATA_LENGTH;
-use texts::{sum, text, wide, within};
+use texts::{one_of, sum, text, within};
 
 // Whether the bytes are a report's frame around their own data: marks, count, sums, 0D 0A with a comma before it or without.
 fn is_report(s: &[u8]) -> bool
@@ -22,50 +22,21 @@ fn is_report(s: &[u8]) -> bool
         return false;
     }
     let sum = sum(text(s, 4, DATA_LENGTH));
-    (wide(s[71]) == sum % 256) & (wide(s[72]) == sum / 256)
+    (u32::from(s[71]) == sum % 256) & (u32::from(s[72]) == sum / 256)
 }
 
-// Whether the padded numbers have their spaces in front: the byte behind a marked place may follow the
-// one at it.
+// Whether the padded numbers have their spaces in front: the byte behind a marked place may follow the one at it.
+// The loop over all places becomes vector code: a test for each of the thirteen that are marked took twice as long.
 fn spaces(marks: &[u8], d: &[u8]) -> bool
     requires { (length marks.now ≡ data_length) × (length d.now ≡ data_length) }
     ensures { result ≡ all_follow marks.now d.now }
 {
     let mut good = true;
-    let mut i = 0;
-    while i < 66 {
+    for i in 0..DATA_LENGTH - 1 {
         let follows = (d[i] == b' ') | ((b'0' <= d[i]) & (b'0' <= d[i + 1]));
-        good = good & ((marks[i] != b'>') | follows);
-        i += 1;
+        good &= (marks[i] != b'>') | follows;
     }
     good
-}
-
-// Whether the letter is one of a warning, and below of an alarm.
-#[tactic(auto, unfolding(rules::specs::Bytes::one_of))]
-fn is_warning(b: u8) -> bool
-    ensures { result ≡ one_of warnings b }
-{
-    (b == b'M')
-        | (b == b'A')
-        | (b == b'S')
-        | (b == b'B')
-        | (b == b'P')
-        | (b == b'O')
-        | (b == b'Y')
-        | (b == b'W')
-        | (b == b'K')
-        | (b == b'R')
-        | (b == b'T')
-        | (b == b'C')
-        | (b == b'N')
-}
-
-#[tactic(auto, unfolding(rules::specs::Bytes::one_of))]
-fn is_alarm(b: u8) -> bool
-    ensures { result ≡ one_of alarms b }
-{
-    (b == b'S') | (b == b'A') | (b == b'D') | (b == b'H') | (b == b'C') | (b == b'N')
 }
 
 // Whether each letter but the bank's is one of its field's.
@@ -73,12 +44,12 @@ fn letters(d: &[u8]) -> bool
     requires { length d.now ≡ data_length }
     ensures { result ≡ letters_good d.now }
 {
-    ((d[5] == b'S') | (d[5] == b'O'))
-        & ((d[7] == b'R') | (d[7] == b'T'))
-        & ((d[17] == b't') | (d[17] == b'b') | (d[17] == b'a'))
-        & ((d[22] == b'L') | (d[22] == b'M') | (d[22] == b'H'))
-        & is_warning(d[63])
-        & is_alarm(d[65])
+    one_of(b"SO", d[5])
+        & one_of(b"RT", d[7])
+        & one_of(b"tba", d[17])
+        & one_of(b"LMH", d[22])
+        & one_of(b"MASBPOYWKRTCN", d[63])
+        & one_of(b"SADHCN", d[65])
 }
 
 // Whether the fields keep the limits of their ID, which is 20K or 13K.
@@ -90,7 +61,7 @@ fn limits(d: &[u8]) -> bool
         return (d[2] == b'0') & (d[9] == b'x') & ((d[13] == b'0') | (d[14] <= b'0'));
     }
     (d[2] == b'3')
-        & ((d[9] == b'A') | (d[9] == b'B'))
+        & one_of(b"AB", d[9])
         & ((d[13] == b'0') | (d[14] <= b'1'))
         & (d[16] <= b'4')
         & (d[19] <= b'4')

@@ -17,29 +17,23 @@ fn by_id(id: u8, big: u32, small: u32) -> u32
 fn bank_allowed(id: u8, bank: u8) -> bool
     ensures { result ≡ one_of (by id (ascii "x") (ascii "AB")) bank }
 {
-    if id == 20 {
-        one_of(b"x", bank)
-    } else {
-        one_of(b"AB", bank)
-    }
+    let banks: &[u8] = if id == 20 { b"x" } else { b"AB" };
+    one_of(banks, bank)
 }
 
 // Whether the fields of a report can hold these values.
 fn fields_in_range(s: Status) -> bool
     ensures { result ≡ fields_in_range s }
 {
-    let band = s.band as u32;
-    let transmit = s.transmit as u32;
-    let receive = s.receive as u32;
     one_of(b"\x14\x0D", s.id)
         & one_of(b"SO", s.state)
         & one_of(b"RT", s.direction)
         & bank_allowed(s.id, s.bank)
         & ((1 <= s.input) & (s.input <= 2))
-        & (band <= by_id(s.id, 10, 11))
-        & (transmit <= by_id(s.id, 6, 4))
+        & (u32::from(s.band) <= by_id(s.id, 10, 11))
+        & (u32::from(s.transmit) <= by_id(s.id, 6, 4))
         & one_of(b"tba", s.tuner)
-        & (receive <= by_id(s.id, 6, 4))
+        & (u32::from(s.receive) <= by_id(s.id, 6, 4))
         & one_of(b"LMH", s.level)
         & (s.watts <= 9999)
         & (s.swratu <= 9999)

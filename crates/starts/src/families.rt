@@ -9,7 +9,7 @@ use rules::{COMMANDS, MESSAGES, REPLIES, SENTENCES};
 pub fn is_spe(family: u8) -> bool
     ensures { result ≡ is_spe family }
 {
-    (family == REPLIES) | (family == COMMANDS)
+    matches!(family, REPLIES | COMMANDS)
 }
 
 // Whether the number is that of a family.
@@ -17,5 +17,5 @@ pub fn is_spe(family: u8) -> bool
 pub fn is_family(family: u8) -> bool
     ensures { result ≡ is_family family }
 {
-    is_spe(family) | (family == SENTENCES) | (family == MESSAGES)
+    matches!(family, REPLIES | SENTENCES | COMMANDS | MESSAGES)
 }

@@ -1,10 +1,10 @@
 // What a start of an SPE packet is known by: the mark of its family, and how many bytes it needs; and the longest and the
 // shortest frame of any family.
 ghost use Rattle.std.specs.Prelude.{◌≡◌};
-ghost use Rattle.stream_rules.specs.Heads.{mark_of, needs, longest, shortest};
+ghost use Rattle.stream_rules.specs.Heads.{mark_of, longest, shortest};
+ghost use Rattle.starts.specs.Needed.{needed};
 
 use crate::brackets::brackets_of;
-use crate::families::is_spe;
 use rules::{
     CODE_COUNT, COMMAND_MARK, COMMANDS, LONGEST_REPORT, MESSAGES, PACKET_LENGTH, REPLIES,
     REPLY_MARK, REPORT_COUNT, SHORTEST_MESSAGE, SHORTEST_SENTENCE,
@@ -22,46 +22,38 @@ pub fn mark_of(family: u8) -> u8
     }
 }
 
-// How many bytes a start needs, by its count, and a report by its form; 0 where there is no count, or it is not allowed.
-pub fn bytes_needed(family: u8, start: &[u8]) -> usize
-    ensures { result ≡ needs family start.now }
+// How many bytes a start needs, by its count, and a report by its form; none where there is no count, or it is not allowed.
+pub fn bytes_needed(family: u8, start: &[u8]) -> Option<usize>
+    ensures { result ≡ needed family start.now }
 {
-    if start.len() < 4 {
-        return 0;
+    match (family, *start.get(3)?) {
+        (_, CODE_COUNT) => Some(PACKET_LENGTH),
+        (REPLIES, REPORT_COUNT) => Some(report_length(start)),
+        _ => None,
     }
-    let count = start[3];
-    if count == CODE_COUNT {
-        return PACKET_LENGTH;
-    }
-    if (family == REPLIES) & (count == REPORT_COUNT) {
-        return report_length(start);
-    }
-    0
 }
 
 // The longest frame of a family.
 pub fn longest_frame(family: u8) -> usize
     ensures { result ≡ longest family }
 {
-    if family == REPLIES {
-        return LONGEST_REPORT;
+    match family {
+        REPLIES => LONGEST_REPORT,
+        COMMANDS => PACKET_LENGTH,
+        _ => {
+            let k = brackets_of(family);
+            k.most + (k.tail + 2)
+        }
     }
-    if family == COMMANDS {
-        return PACKET_LENGTH;
-    }
-    let k = brackets_of(family);
-    k.most + (k.tail + 2)
 }
 
 // The shortest frame of a family.
 pub fn shortest_frame(family: u8) -> usize
     ensures { result ≡ shortest family }
 {
-    if is_spe(family) {
-        return PACKET_LENGTH;
+    match family {
+        REPLIES | COMMANDS => PACKET_LENGTH,
+        MESSAGES => SHORTEST_MESSAGE,
+        _ => SHORTEST_SENTENCE,
     }
-    if family == MESSAGES {
-        return SHORTEST_MESSAGE;
-    }
-    SHORTEST_SENTENCE
 }

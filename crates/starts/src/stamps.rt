@@ -9,24 +9,21 @@ use stream_rules::Order;
 pub fn advanced(count: u32, by: usize) -> u32
     ensures { result ≡ wrap (count + by) }
 {
-    let low = (by % 0x1_0000_0000) as u32;
-    std::num::wrapping_add_u32(count, low)
+    count.wrapping_add((by % 0x1_0000_0000) as u32)
 }
+
+// Half of the numbers that a stamp has: from a stamp to one so far on it can't be said which is the earlier.
+const HALF: u32 = 0x8000_0000;
 
 // How stamp a stands to stamp b, by the bytes from a to b.
 #[tactic(auto, unfolding(stream_rules::specs::Lister::order))]
 pub fn stamp_order(a: u32, b: u32) -> Order
     ensures { result ≡ order a b }
 {
-    let d = std::num::wrapping_sub_u32(b, a);
-    if d == 0 {
-        return Order::Equal;
+    match b.wrapping_sub(a) {
+        0 => Order::Equal,
+        1..HALF => Order::Earlier,
+        HALF => Order::CannotSay,
+        _ => Order::Later,
     }
-    if d < 0x8000_0000 {
-        return Order::Earlier;
-    }
-    if d == 0x8000_0000 {
-        return Order::CannotSay;
-    }
-    Order::Later
 }

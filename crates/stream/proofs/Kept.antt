@@ -5,6 +5,9 @@
 -- All that they know of the two functions is the contract that each meets. An answer and an outcome own only facts.
 -- Assumes nothing.
 use Prim.Native.Nat.{ℕ}
+use Rattle.rules.specs.declared.Refusal.{Refusal}
+use Rattle.stream_rules.specs.declared.Progress.{Progress}
+use Rattle.std.specs.Prelude.{Result}
 use mathlib.Core.List.{List, [], ◌∷◌}
 use seplogic.Ra.Ura.{Ura}
 use base.Fraction.{full_share}
@@ -21,6 +24,8 @@ use types.SemTy.{Body}
 use denote.Laws.{Is, shows}
 use denote.Memory.{mem}
 use denote.Builtin.{u8}
+use denote.Plain.{Nothing}
+use denote.RattleType.{RattleType}
 use denote.Ref.{Bor, MutRef}
 use denote.Slice.{ShrSlice}
 use denote.Steps.{facts, heard, nothing}
@@ -29,16 +34,22 @@ use denote.Triple.Spec.{triple_of}
 use denote.Triple.Statement.{Contract}
 use Rattle.stream_rules.specs.Streams.{Feeds, Shuts}
 use Rattle.stream_rules.specs.declared.Reader.{Reader}
-use Rattle.stream_rules.specs.declared.Answer.{Answer}
-use Rattle.stream_rules.specs.declared.Outcome.{Outcome}
 use Rattle.stream_rules.specs.contracts.Reader as R
 use Rattle.stream_rules.proofs.Reader.TheLaws as R'
-use Rattle.stream_rules.specs.contracts.Answer as N
-use Rattle.stream_rules.specs.contracts.Outcome as O
+use Rattle.stream_rules.specs.contracts.Progress as P
+use Rattle.rules.specs.contracts.Refusal as E
+use Rattle.std.specs.contracts.result.Result as Res
 use Rattle.stream.specs.Lent.{left, turned}
 use Rattle.stream.proofs.Lending.{local_ref, lends_local, takes_back}
 use Rattle.stream.specs.contracts.lent.feed_lent as feed-lent
 use Rattle.stream.specs.contracts.lent.close_lent as close-lent
+
+-- the answer of a call, and the outcome of a close, in memory
+abbrev answer_row : RattleType
+answer_row = Res.the_row P.the_row E.the_row
+
+abbrev outcome_row : RattleType
+outcome_row = Res.the_row Nothing E.the_row
 
 -- ---- the calls: what each is passed, and how that comes from what is had
 module _ {M : Type 1} {𝓤 : Ura M} (𝓛 : Logic 𝓤) (at_mem : Memory → SProp 𝓤) (run : Routine → Fun 𝓤) where
@@ -84,14 +95,14 @@ module _ {M : Type 1} {𝓤 : Ura M} {𝓛 : Logic 𝓤} {K : Type 0} {Γ : List
       use3 𝓛 (raw ((FeedLent 𝓛 at_mem run).pre (to_feed 𝓛 at_mem run κ q s m r ν l γ))) (goes_feed 𝓛 at_mem run κ q s m r ν l γ) $ called ν γ)
 
   pub takes_from_feed : K → Soaks G → (at_mem : Memory → SProp 𝓤) (run : Routine → Fun 𝓤) (κ : Lft) (q : Share) (s : Bor (List ℕ)) (m : Val) (r : Reader) (ν l : ℕ) (γ : GName) (w : Val)
-      → ((n : Answer) (y : Reader) (u : Val) → Feeds r s.now (left y n) → Is N.the_row n (w ∷ []) → Is R.the_row y (u ∷ []) → Seq K 𝓛 (‵ (fat full_share R'.mir l 0 u) ∷ ‵ (flft κ q) ∷ Γ) G)
+      → ((n : (Result Progress Refusal)) (y : Reader) (u : Val) → Feeds r s.now (left y n) → Is answer_row n (w ∷ []) → Is R.the_row y (u ∷ []) → Seq K 𝓛 (‵ (fat full_share R'.mir l 0 u) ∷ ‵ (flft κ q) ∷ Γ) G)
       → Seq K 𝓛 (raw ((FeedLent 𝓛 at_mem run).post (to_feed 𝓛 at_mem run κ q s m r ν l γ) w) ∷ ‵ (flent (ν ∷ []) (Body (mem R.the_row) l 0 γ)) ∷ Γ) G
   takes_from_feed k z at_mem run κ q s m r ν l γ w taken =
-      use1 𝓛 (later (some (λ (n : Answer). ((‵ (flft (ν ∷ []) full_share) ⊛ (‵ (flft κ q) ⊛ ‵ ftrue)) ⊛ ‵ ((N.the_row).own_val n (w ∷ []))) ⊛ raw (ensured 𝓛 feed-lent.ended (feed-lent.clauses 𝓛 at_mem run) (ν ∷ [], (κ, tt)) (local_ref r l γ, (s, tt)) tt n)))) (id⊢ 𝓤 _) $ await k z $ pick k (λ n.
+      use1 𝓛 (later (some (λ (n : (Result Progress Refusal)). ((‵ (flft (ν ∷ []) full_share) ⊛ (‵ (flft κ q) ⊛ ‵ ftrue)) ⊛ ‵ ((answer_row).own_val n (w ∷ []))) ⊛ raw (ensured 𝓛 feed-lent.ended (feed-lent.clauses 𝓛 at_mem run) (ν ∷ [], (κ, tt)) (local_ref r l γ, (s, tt)) tt n)))) (id⊢ 𝓤 _) $ await k z $ pick k (λ n.
       -- what `feed_lent` ensures, at some last reader
       split k $ move k (1 ∷ []) $ use1 𝓛 (some (λ (ys : Reader × (Unit {0} × Unit {0})). ‵ (lasts feed-lent.ended (ν ∷ [], (κ, tt)) (local_ref r l γ, (s, tt)) ys) ⊛ raw (fact 𝓤 (Feeds r s.now (left ys.0 n))))) (id⊢ 𝓤 _) $ pick k (λ ys.
       split k $ move k (1 ∷ []) $ heard k (Feeds r s.now (left ys.0 n)) (λ e. fsplit k $ move k (1 ∷ []) $ drop k $
-      move k (1 ∷ []) $ split k $ move k (1 ∷ []) $ facts k N.the_row (Is N.the_row) (shows 𝓛 N.the_row) n (w ∷ []) (λ is_n.
+      move k (1 ∷ []) $ split k $ move k (1 ∷ []) $ facts k answer_row (Is answer_row) (shows 𝓛 answer_row) n (w ∷ []) (λ is_n.
       -- [the tokens; the last reader; the lender's part]
       split k $ move k (2 ∷ []) $ fsplit k $ move k (1 ∷ []) $ drop k $ move k (1 ∷ 3 ∷ 0 ∷ []) $ takes_back k z R.the_type R'.the_laws ν γ ys.0 l (λ u is_y. move k (1 ∷ []) $ split k $ move k (1 ∷ []) $ drop k $ move k (1 ∷ 0 ∷ []) $ taken n ys.0 u e is_n is_y)))))
 
@@ -102,13 +113,13 @@ module _ {M : Type 1} {𝓤 : Ura M} {𝓛 : Logic 𝓤} {K : Type 0} {Γ : List
       lends_local k z R.the_type R'.the_plain r v l is (λ ν γ. use2 𝓛 (raw ((CloseLent 𝓛 at_mem run).pre (to_close 𝓛 at_mem run r ν l γ))) (goes_close 𝓛 at_mem run r ν l γ) $ called ν γ)
 
   pub takes_from_close : K → Soaks G → (at_mem : Memory → SProp 𝓤) (run : Routine → Fun 𝓤) (r : Reader) (ν l : ℕ) (γ : GName) (w : Val)
-      → ((o : Outcome) (y : Reader) (u : Val) → Shuts r (turned y o) → Is O.the_row o (w ∷ []) → Is R.the_row y (u ∷ []) → Seq K 𝓛 (‵ (fat full_share R'.mir l 0 u) ∷ Γ) G)
+      → ((o : (Result Unit Refusal)) (y : Reader) (u : Val) → Shuts r (turned y o) → Is outcome_row o (w ∷ []) → Is R.the_row y (u ∷ []) → Seq K 𝓛 (‵ (fat full_share R'.mir l 0 u) ∷ Γ) G)
       → Seq K 𝓛 (raw ((CloseLent 𝓛 at_mem run).post (to_close 𝓛 at_mem run r ν l γ) w) ∷ ‵ (flent (ν ∷ []) (Body (mem R.the_row) l 0 γ)) ∷ Γ) G
   takes_from_close k z at_mem run r ν l γ w taken =
-      use1 𝓛 (later (some (λ (o : Outcome). ((‵ (flft (ν ∷ []) full_share) ⊛ ‵ ftrue) ⊛ ‵ ((O.the_row).own_val o (w ∷ []))) ⊛ raw (ensured 𝓛 close-lent.ended (close-lent.clauses 𝓛 at_mem run) (ν ∷ [], tt) (local_ref r l γ, tt) tt o)))) (id⊢ 𝓤 _) $ await k z $ pick k (λ o.
+      use1 𝓛 (later (some (λ (o : (Result Unit Refusal)). ((‵ (flft (ν ∷ []) full_share) ⊛ ‵ ftrue) ⊛ ‵ ((outcome_row).own_val o (w ∷ []))) ⊛ raw (ensured 𝓛 close-lent.ended (close-lent.clauses 𝓛 at_mem run) (ν ∷ [], tt) (local_ref r l γ, tt) tt o)))) (id⊢ 𝓤 _) $ await k z $ pick k (λ o.
       -- what `close_lent` ensures, at some last reader
       split k $ move k (1 ∷ []) $ use1 𝓛 (some (λ (ys : Reader × Unit {0}). ‵ (lasts close-lent.ended (ν ∷ [], tt) (local_ref r l γ, tt) ys) ⊛ raw (fact 𝓤 (Shuts r (turned ys.0 o))))) (id⊢ 𝓤 _) $ pick k (λ ys.
       split k $ move k (1 ∷ []) $ heard k (Shuts r (turned ys.0 o)) (λ e. fsplit k $ move k (1 ∷ []) $ drop k $
-      move k (1 ∷ []) $ split k $ move k (1 ∷ []) $ facts k O.the_row (Is O.the_row) (shows 𝓛 O.the_row) o (w ∷ []) (λ is_o.
+      move k (1 ∷ []) $ split k $ move k (1 ∷ []) $ facts k outcome_row (Is outcome_row) (shows 𝓛 outcome_row) o (w ∷ []) (λ is_o.
       -- [the token; the last reader; the lender's part]
       split k $ move k (2 ∷ []) $ fsplit k $ move k (1 ∷ []) $ drop k $ move k (1 ∷ 3 ∷ 0 ∷ []) $ takes_back k z R.the_type R'.the_laws ν γ ys.0 l (λ u is_y. move k (1 ∷ []) $ drop k $ taken o ys.0 u e is_o is_y)))))

@@ -1,8 +1,8 @@
-// The stream reader, by value and lent. `held_bytes` has a call on its parts.
+// The stream reader, by value and lent. `held_bytes` has a call on one that is lent.
 #![tactic(auto)]
 
 mod lent;
 mod readers;
 
-pub use lent::{close_lent, closed_lent, fed_lent, feed_lent};
+pub use lent::{close_lent, feed_lent};
 pub use readers::{close, feed, fresh_reader};

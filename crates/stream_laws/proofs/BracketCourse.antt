@@ -11,7 +11,7 @@ use native.Mathlib.Omega.{arith}
 use lib.ListN.{length, take, get_or, length-take}
 use lib.Seq.{get_or-take, take-take}
 use Rattle.rules.specs.Answers.{read_one}
-use Rattle.stream_rules.specs.Heads.{brackets_of, around, longest, length_at, wait, head_of, head}
+use Rattle.stream_rules.specs.Heads.{brackets_of, around, longest, wait, head_of, head}
 use Rattle.stream_rules.specs.declared.Brackets.{Brackets}
 use Rattle.stream_laws.proofs.Course.{Course, waits, turns_bad, is_whole}
 use Rattle.stream_laws.proofs.Runs.{run, run_inside, run_front}

@@ -1,7 +1,8 @@
 -- The start of a frame between brackets, of a sentence or a message: the rules by which its head is decided, test by test,
 -- and that every good frame follows them. The tests are those of any brackets; of the family they ask what `Bracketed` says.
 -- Each rule computes the definition by its tests; a bad start is bad since no good frame begins so. Assumes nothing.
-use Prim.Native.Nat.{ℕ, suc, ◌+◌, ◌-◌, ◌<◌, ◌≤◌}
+use Prim.Native.Nat.{ℕ, suc, ◌+◌, ◌<◌, ◌≤◌}
+use Rattle.std.specs.Prelude.{Ok}
 use mathlib.Core.Path.{◌≡◌, refl, ap, ◌∙◌, subst}
 use mathlib.Core.Bool.{Bool, true, false, ◌&&◌, cond}
 use mathlib.Core.List.{List, [], ◌∷◌}
@@ -14,7 +15,6 @@ use lib.Seq.{drop-cons}
 use borrow.Author.Tests.{eq-eqb, ne_eqb, lt-ltb, le-ltb, le-leb, lt-leb}
 use Rattle.rules.specs.Answers.{read_one}
 use Rattle.rules.specs.declared.Frame.{Frame}
-use Rattle.rules.specs.declared.Reading.TheVariants.{Good}
 use Rattle.stream_rules.specs.Heads.{brackets_of, around, shortest, open_end, bracket_undecided, undecided, wait, bad, good, head_of, head}
 use Rattle.stream_rules.specs.declared.Brackets.{Brackets}
 use Rattle.stream_laws.specs.Settled.{bracket_settled, settled}
@@ -121,11 +121,11 @@ module _ (family : ℕ) (is : Bracketed family) where
           )
 
   -- A good frame has at least as many bytes as the shortest.
-  pub at_least : (bs : List ℕ) (n : ℕ) (f : Frame) → n ≤ length bs → read_one family (take n bs) ≡ Good f → shortest family ≤ n
+  pub at_least : (bs : List ℕ) (n : ℕ) (f : Frame) → n ≤ length bs → read_one family (take n bs) ≡ Ok f → shortest family ≤ n
   at_least bs n f there e = let h = is.good_start bs n f e in omega (arith, h.size, h.long, length-take n bs)
 
   -- Every good frame at the head is found.
-  pub complete : (bs : List ℕ) (n : ℕ) (f : Frame) → n ≤ length bs → read_one family (take n bs) ≡ Good f → head family bs ≡ good n f
+  pub complete : (bs : List ℕ) (n : ℕ) (f : Frame) → n ≤ length bs → read_one family (take n bs) ≡ Ok f → head family bs ≡ good n f
   complete bs n f there e =
       let h = is.good_start bs n f e in
       let size : around k (run k bs) ≡ n = omega (arith, h.size, length-take n bs) in

@@ -2,6 +2,8 @@
 -- opening byte, the run of inner bytes, a closing byte and as many more as stand behind it. Sentences and messages do, by
 -- their definitions; a number that is no family has no good frame. Assumes nothing.
 use Prim.Native.Nat.{ℕ, ◌+◌, ◌-◌, ◌≤◌}
+use Rattle.rules.specs.declared.Refusal.TheVariants.{NoFamily}
+use Rattle.std.specs.Prelude.{Err, Ok}
 use Prim.Native.Char.{code}
 use mathlib.Core.Path.{◌≡◌, refl, sym, ap, ◌∙◌}
 use mathlib.Core.Bool.{Bool, true, false, ◌||◌, cond, false≢true}
@@ -16,11 +18,10 @@ use Rattle.rules.specs.Codes.{packet_length}
 use Rattle.rules.specs.Status.{longest_report}
 use Rattle.rules.specs.Sentences.{is_payload_byte, is_payload, is_sentence, payload_of, check_of}
 use Rattle.rules.specs.Messages.{is_body_byte, is_body, is_message, body_of}
-use Rattle.rules.specs.Answers.{replies, sentences, commands, messages, no_family, read_one, read_family2, read_family4}
+use Rattle.rules.specs.Answers.{replies, sentences, commands, messages, read_one, read_family2, read_family4}
 use Rattle.rules.specs.declared.Frame.{Frame}
-use Rattle.rules.specs.declared.Reading.TheVariants.{Good, Refused}
 use Rattle.frame_laws.proofs.Bytes.{tests, same_eq, between_bounds}
-use Rattle.stream_rules.specs.Heads.{is_spe, sentence_brackets, message_brackets, brackets_of, around, is_inner, inner_run, longest, shortest, length_at}
+use Rattle.stream_rules.specs.Heads.{is_spe, sentence_brackets, message_brackets, brackets_of, around, is_inner, longest, shortest, length_at}
 use Rattle.stream_rules.specs.declared.Brackets.{Brackets}
 use Rattle.stream_laws.proofs.Lists.{front_and_rest}
 use Rattle.stream_laws.proofs.Course.{passed}
@@ -56,9 +57,9 @@ module _ (k : Brackets) (least : ℕ) (bs p tail : List ℕ) (n : ℕ) (frame : 
 -- What a family of brackets owes.
 pub record Bracketed (family : ℕ) : Type 0 where
   pub no_spe : is_spe family ≡ false
-  pub good_start : (bs : List ℕ) (n : ℕ) (f : Frame) → read_one family (take n bs) ≡ Good f → Between (brackets_of family) (shortest family) bs n
+  pub good_start : (bs : List ℕ) (n : ℕ) (f : Frame) → read_one family (take n bs) ≡ Ok f → Between (brackets_of family) (shortest family) bs n
 
-sentence_start : (bs : List ℕ) (n : ℕ) (f : Frame) → read_one sentences (take n bs) ≡ Good f → Between (brackets_of sentences) (shortest sentences) bs n
+sentence_start : (bs : List ℕ) (n : ℕ) (f : Frame) → read_one sentences (take n bs) ≡ Ok f → Between (brackets_of sentences) (shortest sentences) bs n
 unfolding read_one read_family2 is_sentence is_payload is_payload_byte
 sentence_start bs n f e =
     let t = take n bs in
@@ -71,7 +72,7 @@ sentence_start bs n f e =
     let four : length check ≡ 4 = omega (arith, length-drop (length t - 4) t, length-take (length t - 6) (drop 1 t), length-drop 1 t) in
     between (brackets_of sentences) (shortest sentences) bs p check n frame payload refl four (omega arith) (omega arith)
 
-message_start : (bs : List ℕ) (n : ℕ) (f : Frame) → read_one messages (take n bs) ≡ Good f → Between (brackets_of messages) (shortest messages) bs n
+message_start : (bs : List ℕ) (n : ℕ) (f : Frame) → read_one messages (take n bs) ≡ Ok f → Between (brackets_of messages) (shortest messages) bs n
 unfolding read_one read_family4 is_message is_body is_body_byte
 message_start bs n f e =
     let t = take n bs in
@@ -94,7 +95,7 @@ bracketed family no_spe = by (eqb family replies) (eqb family sentences) (eqb fa
     by false false false true p q r s = rw (eqb-true family messages s) record { no_spe = refl; good_start = message_start }
     by false false false false p q r s = record { no_spe = no_spe; good_start = λ bs n f e. absurd (none (rw (p, q, r, s) at e)) }
       where
-        none : {f : Frame} → Refused no_family ≡ Good f → ⊥
+        none : {f : Frame} → Err NoFamily ≡ Ok f → ⊥
         none e = let z : ◌≡◌ {A = ℕ} 0 1 = cc in omega arith
 
 -- Its longest frame is that of the brackets, and so is the length that a start declares.

@@ -2,6 +2,8 @@
 -- what it is. What the readers need of a head follows from that, whatever the family.
 -- Assumes nothing.
 use Prim.Native.Nat.{ℕ, ◌<◌, ◌≤◌}
+use Rattle.rules.specs.Answers.{Read}
+use Rattle.std.specs.Prelude.{Err, Ok}
 use mathlib.Core.Path.{◌≡◌, refl}
 use mathlib.Core.Bool.{Bool, true, false, cond}
 use mathlib.Core.List.{List}
@@ -9,10 +11,9 @@ use native.Mathlib.Omega.{arith}
 use lib.ListN.{length, take}
 use Rattle.rules.specs.Answers.{read_one}
 use Rattle.rules.specs.declared.Frame.{Frame}
-use Rattle.rules.specs.declared.Reading.{Reading}
-use Rattle.rules.specs.declared.Reading.TheVariants.{Good, Refused}
 use Rattle.stream_rules.specs.Heads.{longest, length_at, Head, wait, bad, good, head_of, head}
 use Rattle.stream_laws.specs.Settled.{settled}
+use Rattle.rules.specs.declared.Refusal.{Refusal}
 
 -- The first s bytes settle the head: it is h with them and any more, and undecided with fewer.
 pub record Settles (family : ℕ) (bs : List ℕ) (s : ℕ) (h : Head) : Type 0 where
@@ -31,20 +32,20 @@ pub data Course (family : ℕ) (bs : List ℕ) : Type 0 where
   is_whole : (n : ℕ) → length_at family bs ≡ n → Settles family bs n (head_of n (read_one family (take n bs))) → Course family bs
 
 -- An answer that is a refusal where a test fails: where it is good, the test passed.
-pub passed : (test : Bool) (r : Reading) (n : ℕ) (f : Frame) → cond test r (Refused n) ≡ Good f → (test ≡ true) × (r ≡ Good f)
+pub passed : (test : Bool) (r : Read) (n : Refusal) (f : Frame) → cond test r (Err n) ≡ Ok f → (test ≡ true) × (r ≡ Ok f)
 passed true r n f e = (refl, e)
 passed false r n f e = (cc, cc)
 
 -- A head by the reader of one frame is not undecided; a good one is what was read; and where nothing good was read, it
 -- is bad.
-pub head_of_decided : (n : ℕ) (r : Reading) → head_of n r ≡ wait → ⊥
-head_of_decided n (Good f) e = let z : ◌≡◌ {A = ℕ} 0 1 = cc in omega arith
-head_of_decided n (Refused number) e = let z : ◌≡◌ {A = ℕ} 0 1 = cc in omega arith
+pub head_of_decided : (n : ℕ) (r : Read) → head_of n r ≡ wait → ⊥
+head_of_decided n (Ok f) e = let z : ◌≡◌ {A = ℕ} 0 1 = cc in omega arith
+head_of_decided n (Err number) e = let z : ◌≡◌ {A = ℕ} 0 1 = cc in omega arith
 
-pub head_of_good : (n k : ℕ) (f : Frame) (r : Reading) → head_of n r ≡ good k f → (n ≡ k) × (r ≡ Good f)
-head_of_good n k f (Good g) e = (cc, cc)
-head_of_good n k f (Refused number) e = (cc, cc)
+pub head_of_good : (n k : ℕ) (f : Frame) (r : Read) → head_of n r ≡ good k f → (n ≡ k) × (r ≡ Ok f)
+head_of_good n k f (Ok g) e = (cc, cc)
+head_of_good n k f (Err number) e = (cc, cc)
 
-pub head_of_bad : (n : ℕ) (r : Reading) → ((f : Frame) → r ≡ Good f → ⊥) → head_of n r ≡ bad
-head_of_bad n (Good f) never = absurd (never f refl)
-head_of_bad n (Refused number) never = refl
+pub head_of_bad : (n : ℕ) (r : Read) → ((f : Frame) → r ≡ Ok f → ⊥) → head_of n r ≡ bad
+head_of_bad n (Ok f) never = absurd (never f refl)
+head_of_bad n (Err number) never = refl

@@ -1,6 +1,7 @@
 -- Each family has the four facts that demand 3 needs of it, so what is proved from them holds of its head. They are laws
 -- of the head of a list. Assumes nothing.
 use Prim.Native.Nat.{ℕ, ◌+◌, ◌-◌, ◌≤◌, ◌<◌}
+use Rattle.stream_rules.specs.declared.Progress.TheVariants.{Ready}
 use mathlib.Core.Path.{◌≡◌, sym, ap, subst, ◌∙◌}
 use mathlib.Core.List.{List}
 use native.Mathlib.Omega.{arith}
@@ -9,11 +10,11 @@ use Rattle.stream_rules.specs.Heads.{longest, head}
 use Rattle.stream_rules.specs.Streams.{Feeds}
 use Rattle.stream_rules.specs.declared.Reader.{Reader}
 use Rattle.stream_rules.specs.declared.Ready as ReadyType
-use Rattle.stream_rules.specs.declared.Answer.TheVariants.{Ready}
 use Rattle.stream_rules.specs.declared.Fed.{Fed}
 use Rattle.stream_laws.proofs.Heads.{GoodHead, good_head, stays, decided, empty}
 use Rattle.stream_laws.proofs.Facts.{Facts}
 use Rattle.stream_laws.proofs.States.{Onward, onward}
+use Rattle.std.specs.Prelude.{Ok}
 
 pub facts : (family : ℕ) → Facts (head family) (longest family)
 facts family = record {
@@ -24,7 +25,7 @@ facts family = record {
 }
 
 -- So whatever meets the promise of a call goes on with each frame that it hands out.
-pub goes_on : (r : Reader) (offered : List ℕ) (f : Fed) (x : ReadyType.Ready) → Feeds r offered f → f.answer ≡ Ready x
+pub goes_on : (r : Reader) (offered : List ℕ) (f : Fed) (x : ReadyType.Ready) → Feeds r offered f → f.answer ≡ Ok (Ready x)
     → Onward r offered x.taken f.reader
 goes_on r offered f x feeds is =
     subst
@@ -38,7 +39,7 @@ pub record Fewer (r after : Reader) (offered : List ℕ) (at taken : ℕ) : Type
   pub less : after.count + (length offered - (at + taken)) < r.count + (length offered - at)
 
 pub offers_rest : (r : Reader) (offered : List ℕ) (at : ℕ) (f : Fed) (x : ReadyType.Ready) → at ≤ length offered
-    → Feeds r (take (length offered - at) (drop at offered)) f → f.answer ≡ Ready x → Fewer r f.reader offered at x.taken
+    → Feeds r (take (length offered - at) (drop at offered)) f → f.answer ≡ Ok (Ready x) → Fewer r f.reader offered at x.taken
 offers_rest r offered at f x inside feeds is =
     let on = goes_on r (take (length offered - at) (drop at offered)) f x feeds is in
     let front = length-take (length offered - at) (drop at offered) in

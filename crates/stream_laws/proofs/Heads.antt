@@ -3,6 +3,7 @@
 -- A start is an SPE start or one between brackets, and from its course the rest follows, whatever the family.
 -- Assumes nothing.
 use Prim.Native.Nat.{ℕ, ◌<◌, ◌≤◌}
+use Rattle.std.specs.Prelude.{Ok}
 use mathlib.Core.Path.{◌≡◌, sym, ap, ◌∙◌}
 use mathlib.Core.Bool.{Bool, true, false, cond}
 use mathlib.Core.List.{List, [], ◌++◌}
@@ -17,7 +18,6 @@ use Rattle.rules.specs.Sentences.{shortest_sentence}
 use Rattle.rules.specs.Messages.{shortest_message}
 use Rattle.rules.specs.Answers.{messages, read_one}
 use Rattle.rules.specs.declared.Frame.{Frame}
-use Rattle.rules.specs.declared.Reading.TheVariants.{Good}
 use Rattle.stream_rules.specs.Heads.{is_spe, shortest, shortest_frame, longest, length_at, Head, wait, bad, good, head}
 use Rattle.stream_laws.specs.Settled.{settled}
 use Rattle.stream_laws.proofs.Numbers.{Number, of_packets, of_brackets, number}
@@ -36,18 +36,18 @@ course family bs = by (number family)
     by (of_brackets is) = BracketCourse.course family is bs
 
 -- Every good frame at the head is found, so the length that is declared there hides none.
-pub complete : (family : ℕ) (bs : List ℕ) (n : ℕ) (f : Frame) → n ≤ length bs → read_one family (take n bs) ≡ Good f → head family bs ≡ good n f
+pub complete : (family : ℕ) (bs : List ℕ) (n : ℕ) (f : Frame) → n ≤ length bs → read_one family (take n bs) ≡ Ok f → head family bs ≡ good n f
 complete family bs n f there = by (number family)
   where
-    by : Number family → read_one family (take n bs) ≡ Good f → head family bs ≡ good n f
+    by : Number family → read_one family (take n bs) ≡ Ok f → head family bs ≡ good n f
     by (of_packets is) e = Packet.complete family is bs n f there e
     by (of_brackets is) e = Bracket.complete family is bs n f there e
 
 -- No good frame is shorter than its family's shortest, and none than the shortest of all families.
-at_least : (family : ℕ) (bs : List ℕ) (n : ℕ) (f : Frame) → n ≤ length bs → read_one family (take n bs) ≡ Good f → shortest family ≤ n
+at_least : (family : ℕ) (bs : List ℕ) (n : ℕ) (f : Frame) → n ≤ length bs → read_one family (take n bs) ≡ Ok f → shortest family ≤ n
 at_least family bs n f there = by (number family)
   where
-    by : Number family → read_one family (take n bs) ≡ Good f → shortest family ≤ n
+    by : Number family → read_one family (take n bs) ≡ Ok f → shortest family ≤ n
     by (of_packets is) e = rw is (Packet.at_least family is bs n f there e)
     by (of_brackets is) e = Bracket.at_least family is bs n f there e
 
@@ -61,7 +61,7 @@ shortest_of_all family = by (is_spe family) (eqb family messages)
 
 -- A bad start, or an undecided one, is no frame: none of its fronts is good.
 pub no_frame : (family : ℕ) (bs : List ℕ) → (head family bs ≡ bad) ⊎ (head family bs ≡ wait)
-    → (n : ℕ) (f : Frame) → n ≤ length bs → read_one family (take n bs) ≡ Good f → ⊥
+    → (n : ℕ) (f : Frame) → n ≤ length bs → read_one family (take n bs) ≡ Ok f → ⊥
 no_frame family bs none n f there e =
     let found = complete family bs n f there e in
     let z : ◌≡◌ {A = ℕ} 0 1 = ⊎_elim (λ h. cc) (λ h. cc) none in
@@ -127,7 +127,7 @@ pub record GoodHead (family : ℕ) (bs : List ℕ) (n : ℕ) (f : Frame) : Type 
   pub long : shortest family ≤ n
   pub short : n ≤ longest family
   pub declared : n ≡ length_at family bs
-  pub read : read_one family (take n bs) ≡ Good f
+  pub read : read_one family (take n bs) ≡ Ok f
   pub settles : settled family bs ≡ n
 
 pub good_head : (family : ℕ) (bs : List ℕ) (n : ℕ) (f : Frame) → head family bs ≡ good n f → GoodHead family bs n f

@@ -2,6 +2,10 @@
 -- stands where the rule says that it starts, so it is read from its own bytes, and lies inside the stream; so the counts
 -- of a capture never wrap. Assumes nothing.
 use Prim.Native.Nat.{ℕ, zero, suc, pred, ◌+◌, ◌-◌, ◌≤◌, ◌<◌, ◌^◌}
+use Rattle.rules.specs.declared.Refusal.{Refusal}
+use Rattle.stream_rules.specs.declared.Progress.{Progress}
+use Rattle.rules.specs.declared.Refusal.TheVariants.{NoFamily, NoRoom, TooLong}
+use Rattle.std.specs.Prelude.{Err, Ok, Result}
 use mathlib.Core.Path.{◌≡◌, refl, sym, ap, ap₂, ◌∙◌}
 use mathlib.Core.Bool.{Bool, true, false, cond, not}
 use mathlib.Core.List.{List, [], ◌∷◌, ◌++◌, map}
@@ -12,15 +16,11 @@ use lib.Dec.{leb}
 use lib.ListN.{length, take, drop, length-append, length-drop, length-map}
 use lib.Seq.{take_at}
 use Rattle.rules.specs.Bytes.{part}
-use Rattle.rules.specs.Answers.{read_one, no_family, no_room, is_family}
-use Rattle.rules.specs.declared.Reading.TheVariants.{Good}
+use Rattle.rules.specs.Answers.{read_one, is_family}
 use Rattle.stream_rules.specs.Heads.{Head, wait, bad, good, longest, head, at_close}
 use Rattle.stream_rules.specs.Rule.{Found, Look, ready, waiting, by_head, by_look, look, rule}
 use Rattle.stream_rules.specs.Streams.{wrap, Makes}
-use Rattle.stream_rules.specs.Lister.{frames, starts_of, too_long, fits, Lists, first_frame, first_place}
-use Rattle.stream_rules.specs.declared.Answer.{Answer}
-use Rattle.stream_rules.specs.declared.Listed.{Listed}
-use Rattle.stream_rules.specs.declared.Listed.TheVariants.{Count, Refused}
+use Rattle.stream_rules.specs.Lister.{frames, starts_of, fits, Lists, first_frame, first_place}
 use Rattle.stream_rules.specs.declared.Turned.{Turned}
 use Rattle.stream_laws.specs.Sessions.{Session, handed, wrapped}
 use Rattle.stream_laws.proofs.Facts.{Facts}
@@ -103,11 +103,11 @@ rule_stands h zero at skipped (b ∷ bs) =
     refl
 
 -- Every frame of the rule is a good frame, read from its own bytes alone.
-pub frames_read : (family : ℕ) (bs : List ℕ) → Each (λ f. read_one family (part f.start f.length bs) ≡ Good f.frame) (frames family bs)
+pub frames_read : (family : ℕ) (bs : List ℕ) → Each (λ f. read_one family (part f.start f.length bs) ≡ Ok f.frame) (frames family bs)
 frames_read family bs =
     each_also
     (Stands (head family) 0 0 bs)
-    (λ f. read_one family (part f.start f.length bs) ≡ Good f.frame)
+    (λ f. read_one family (part f.start f.length bs) ≡ Ok f.frame)
     (λ f s.
     ap (λ (i : ℕ). read_one family (part i f.length bs)) (s.starts ∙ zero-add s.place)
     ∙ (good_head family (drop s.place bs) f.length f.frame s.here).read)
@@ -171,7 +171,7 @@ starts_wrapped [] = refl
 starts_wrapped (f ∷ fs) = ap (λ (l : List ℕ). wrap f.start ∷ l) (starts_wrapped fs)
 
 -- The lister says how many only where nothing refuses, and then as many as the rule finds.
-counted : (i a b : Bool) (m n : ℕ) → Count n ≡ cond (not i) (Refused no_family) (cond (not a) (Refused too_long) (cond (not b) (Refused no_room) (Count m)))
+counted : (i a b : Bool) (m n : ℕ) → Ok n ≡ cond (not i) (Err NoFamily) (cond (not a) (Err TooLong) (cond (not b) (Err NoRoom) (Ok m)))
     → (i ≡ true) × (a ≡ true) × (b ≡ true) × (n ≡ m)
 counted false a b m n e = let z : ◌≡◌ {A = ℕ} 0 1 = cc in absurd (omega arith)
 counted true false b m n e = let z : ◌≡◌ {A = ℕ} 0 1 = cc in absurd (omega arith)
@@ -186,7 +186,7 @@ pub record AllListed (family : ℕ) (capture : List ℕ) (n : ℕ) (after : List
   pub places : n ≤ length after
   pub all : take n after ≡ starts_of (frames family capture)
 
-pub all_listed : (family : ℕ) (capture out : List ℕ) (answer : Listed) (n : ℕ) (after : List ℕ) → Lists family capture out answer after → answer ≡ Count n
+pub all_listed : (family : ℕ) (capture out : List ℕ) (answer : (Result ℕ Refusal)) (n : ℕ) (after : List ℕ) → Lists family capture out answer after → answer ≡ Ok n
     → AllListed family capture n after
 all_listed family capture out answer n after lists counts =
     let fs = frames family capture in
@@ -204,7 +204,7 @@ all_listed family capture out answer n after lists counts =
 
 -- The reader's starts are the lister's, modulo 2^32; and on a capture its frames are the rule's, with nothing wrapped.
 module _ (family : ℕ) (known : is_family family ≡ true) (facts : Facts (head family) (longest family)) (t : Turned) (begins : Makes family t)
-    (stream lengths : List ℕ) (answers : List Answer) (session : Session t.reader stream lengths answers) where
+    (stream lengths : List ℕ) (answers : List (Result Progress Refusal)) (session : Session t.reader stream lengths answers) where
   pub starts_agree : starts_of (handed answers) ≡ map wrap (starts_of (frames family stream))
   starts_agree = ap starts_of (demand3 family known facts t begins stream lengths answers session).list ∙ starts_wrapped (frames family stream)
 
@@ -212,9 +212,9 @@ module _ (family : ℕ) (known : is_family family ≡ true) (facts : Facts (head
   capture_agrees p = (demand3 family known facts t begins stream lengths answers session).list ∙ capture_unwrapped family facts stream p
 
   -- So where the lister says how many, the front of its list are the starts of the frames that the reader hands out.
-  pub lister_agrees : (out : List ℕ) (n : ℕ) (after : List ℕ) → Lists family stream out (Count n) after
+  pub lister_agrees : (out : List ℕ) (n : ℕ) (after : List ℕ) → Lists family stream out (Ok n) after
       → (n ≡ length (handed answers)) × (take n after ≡ starts_of (handed answers))
   lister_agrees out n after lists =
-      let l = all_listed family stream out (Count n) n after lists refl in
+      let l = all_listed family stream out (Ok n) n after lists refl in
       let agrees : handed answers ≡ frames family stream = capture_agrees (leb-true (length stream) 65536 l.short) in
       (l.many ∙ ap length (sym agrees), l.all ∙ ap starts_of (sym agrees))

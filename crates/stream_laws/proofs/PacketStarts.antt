@@ -2,6 +2,7 @@
 -- every good frame follows them. One argument for both families, over the mark and what a start needs.
 -- Each rule computes the definition by its tests; a bad start is bad since no good frame begins so. Assumes nothing.
 use Prim.Native.Nat.{ℕ, zero, suc, ◌+◌, ◌/◌, ◌%◌, ◌<◌, ◌≤◌}
+use Rattle.std.specs.Prelude.{Ok}
 use mathlib.Core.Path.{◌≡◌, refl, sym, ap, ◌∙◌}
 use mathlib.Core.Bool.{Bool, true, false, ◌&&◌, cond, and-false}
 use mathlib.Core.List.{List, [], ◌∷◌, ◌++◌}
@@ -17,7 +18,6 @@ use Rattle.rules.specs.Codes.{packet_length, packet, is_ack, is_command}
 use Rattle.rules.specs.Status.{behind_checksum, report_length_in, line_end, comma_in, data_of, is_status, status_frame}
 use Rattle.rules.specs.Answers.{read_one, read_family1, read_family3}
 use Rattle.rules.specs.declared.Frame.{Frame}
-use Rattle.rules.specs.declared.Reading.TheVariants.{Good}
 use Rattle.frame_laws.proofs.Bytes.{tests, same_eq, cond_cases}
 use Rattle.frame_laws.proofs.Comma.{at_most_one, comma_in_front, report-length}
 use Rattle.frame_laws.proofs.Form.{in_frame}
@@ -128,21 +128,21 @@ report_framed bs is-good =
     }
 
 -- and so every good frame of these families.
-reply_framed : (bs : List ℕ) (f : Frame) → read_one 1 bs ≡ Good f → Framed 1 bs
+reply_framed : (bs : List ℕ) (f : Frame) → read_one 1 bs ≡ Ok f → Framed 1 bs
 unfolding read_one read_family1 is_ack
 reply_framed bs f e =
     ⊎_elim
     (λ ack. let is-good = ack.0 in packet_framed 1 (get_or bs 4 0) bs (same_eq bs _ (search tests)))
     (λ other. report_framed bs (passed (is_status bs) _ _ f other.1).0)
-    (cond_cases (is_ack bs) _ _ (Good f) e)
+    (cond_cases (is_ack bs) _ _ (Ok f) e)
 
-command_framed : (bs : List ℕ) (f : Frame) → read_one 3 bs ≡ Good f → Framed 3 bs
+command_framed : (bs : List ℕ) (f : Frame) → read_one 3 bs ≡ Ok f → Framed 3 bs
 unfolding read_one read_family3 is_command
 command_framed bs f e =
     let is-good = (passed (is_command bs) _ _ f e).0 in
     packet_framed 3 (get_or bs 4 0) bs (same_eq bs _ (search tests))
 
-good_framed : (family : ℕ) (bs : List ℕ) (f : Frame) → is_spe family ≡ true → read_one family bs ≡ Good f → Framed family bs
+good_framed : (family : ℕ) (bs : List ℕ) (f : Frame) → is_spe family ≡ true → read_one family bs ≡ Ok f → Framed family bs
 good_framed family bs f spe e =
     ⊎_elim
     (λ one. rw one (reply_framed bs f (rw one at e)))
@@ -171,7 +171,7 @@ module _ (family : ℕ) (spe : is_spe family ≡ true) (bs : List ℕ) where
   needed = needs family bs
 
   -- a good frame at the head has the marks, and as many bytes as its start needs
-  pub good_start : (n : ℕ) (f : Frame) → read_one family (take n bs) ≡ Good f
+  pub good_start : (n : ℕ) (f : Frame) → read_one family (take n bs) ≡ Ok f
       → Marks family 3 bs × (needed ≡ length (take n bs)) × (4 ≤ length (take n bs))
   good_start n f e =
       let c = good_framed family (take n bs) f spe e in
@@ -192,7 +192,7 @@ module _ (family : ℕ) (spe : is_spe family ≡ true) (bs : List ℕ) where
   settled_by = rw spe
 
   -- a decided start is bad where no front of it is a good frame
-  decided_bad : spe_undecided family bs ≡ false → ((n : ℕ) (f : Frame) → read_one family (take n bs) ≡ Good f → ⊥) → head family bs ≡ bad
+  decided_bad : spe_undecided family bs ≡ false → ((n : ℕ) (f : Frame) → read_one family (take n bs) ≡ Ok f → ⊥) → head family bs ≡ bad
   decided_bad e never = head_by false e ∙ head_of_bad needed (read_one family (take needed bs)) (never needed)
 
   -- the test of a mark, by the byte
@@ -268,13 +268,13 @@ module _ (family : ℕ) (spe : is_spe family ≡ true) (bs : List ℕ) where
     )
 
   -- A good frame has at least the six bytes of a packet with a code.
-  pub at_least : (n : ℕ) (f : Frame) → n ≤ length bs → read_one family (take n bs) ≡ Good f → packet_length ≤ n
+  pub at_least : (n : ℕ) (f : Frame) → n ≤ length bs → read_one family (take n bs) ≡ Ok f → packet_length ≤ n
   at_least n f there e =
       let h = good_start n f e in
       omega (arith, needs_six family bs (omega (arith, h.1, h.2)), h.1, length-take n bs)
 
   -- Every good frame at the head is found.
-  pub complete : (n : ℕ) (f : Frame) → n ≤ length bs → read_one family (take n bs) ≡ Good f → head family bs ≡ good n f
+  pub complete : (n : ℕ) (f : Frame) → n ≤ length bs → read_one family (take n bs) ≡ Ok f → head family bs ≡ good n f
   complete n f there e =
       let h = good_start n f e in
       let size : length (take n bs) ≡ n = omega (arith, length-take n bs) in

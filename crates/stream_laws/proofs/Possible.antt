@@ -3,6 +3,9 @@
 -- done after at most one call for each byte that it holds, and one. And every session that follows a cut is a session.
 -- Assumes nothing.
 use Prim.Native.Nat.{ℕ, zero, suc, ◌+◌, ◌-◌, ◌≤◌, ◌<◌}
+use Rattle.rules.specs.declared.Refusal.{Refusal}
+use Rattle.stream_rules.specs.declared.Progress.{Progress}
+use Rattle.std.specs.Prelude.{Result}
 use mathlib.Core.Path.{◌≡◌, refl, sym, ap, subst, ◌∙◌}
 use mathlib.Core.Bool.{true}
 use mathlib.Core.List.{List, [], ◌∷◌, ◌++◌}
@@ -14,7 +17,6 @@ use Rattle.stream_rules.specs.Heads.{Head, longest, head, at_close}
 use Rattle.stream_rules.specs.Rule.{Look, ready, waiting, look, Call, gives, wants, call}
 use Rattle.stream_rules.specs.Streams.{wrap, holding, fed, shut, Feeds, Makes}
 use Rattle.stream_rules.specs.declared.Reader.{Reader}
-use Rattle.stream_rules.specs.declared.Answer.{Answer}
 use Rattle.stream_rules.specs.declared.Fed.{Fed}
 use Rattle.stream_rules.specs.declared.Turned.{Turned}
 use Rattle.stream_laws.specs.Sessions.{Draining, Session, Following, to_offer, stream_of, taken_of}
@@ -27,10 +29,10 @@ use Rattle.stream_laws.proofs.Sessions.{open_fed, closed_fed, fed_open, fed_clos
 
 -- some draining of a closed reader that holds these bytes, and some session of an open one that follows a cut
 abbrev Drains : ℕ → List ℕ → ℕ → ℕ → Type 0
-Drains family bytes at skipped = (answers : List Answer) × Draining (holding family 1 bytes (wrap at) (wrap skipped)) answers
+Drains family bytes at skipped = (answers : List (Result Progress Refusal)) × Draining (holding family 1 bytes (wrap at) (wrap skipped)) answers
 
 abbrev Runs : Reader → List (List ℕ) → Type 0
-Runs r pieces = (answers : List Answer) × Following r pieces answers
+Runs r pieces = (answers : List (Result Progress Refusal)) × Following r pieces answers
 
 -- a call, and a session from the state and the pieces that it leaves
 run_call : (r : Reader) (piece : List ℕ) (pieces : List (List ℕ)) (a : Fed) → fed r piece ≡ a
@@ -122,7 +124,7 @@ left_of k piece pieces within = by_rest (drop k piece) ∙ sym (drop-append-le k
     by_rest [] = refl
     by_rest (b ∷ rest) = refl
 
-pub followed : {r : Reader} {pieces : List (List ℕ)} {answers : List Answer} → Following r pieces answers → (lengths : List ℕ) × Session r (stream_of pieces) lengths answers
+pub followed : {r : Reader} {pieces : List (List ℕ)} {answers : List (Result Progress Refusal)} → Following r pieces answers → (lengths : List ℕ) × Session r (stream_of pieces) lengths answers
 followed {r} (Following.calls {pieces = pieces} {answers = answers} piece a e later) =
     let (lengths, session) = followed later in
     let whole : take (length piece) (piece ++ stream_of pieces) ≡ piece = take-append_seam piece (stream_of pieces) in
@@ -133,7 +135,7 @@ followed (Following.closes t e later) = ([], Session.closes t e later)
 -- For every cut of a stream there is a session that follows it.
 pub possible : (family : ℕ) → is_family family ≡ true
     → (t : Turned) → Makes family t
-    → (pieces : List (List ℕ)) → (answers : List Answer) × Following t.reader pieces answers
+    → (pieces : List (List ℕ)) → (answers : List (Result Progress Refusal)) × Following t.reader pieces answers
 possible family known t e pieces =
     subst
     (λ (r : Reader). Runs r pieces)

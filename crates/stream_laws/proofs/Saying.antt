@@ -1,31 +1,32 @@
 -- What the answers of a stream and of the lister say in the terms of document 01, from what they are. Assumes nothing.
 use Prim.Native.Nat.{ℕ}
+use Rattle.rules.specs.declared.Refusal.{Refusal}
+use Rattle.rules.specs.Refusals.{holds_too_much, is_closed, no_family, no_room, too_long}
+use Rattle.rules.specs.declared.Refusal.TheVariants.{HoldsTooMuch, NoFamily, NoRoom, TooLong}
+use Rattle.std.specs.Prelude.{Err, Ok, Result}
 use mathlib.Core.Path.{◌≡◌, refl, ap, ◌∙◌}
 use mathlib.Core.Bool.{Bool, true, false, cond, not}
 use mathlib.Core.List.{List, [], ◌∷◌}
 use lib.Dec.{eqb, leb}
 use lib.IntN.{pos}
 use lib.ListN.{length}
-use Rattle.rules.specs.Answers.{starts_listed, accepted, no, yes, no_family, no_room, is_family}
+use Rattle.rules.specs.Answers.{starts_listed, accepted, no, yes, is_family}
 use Rattle.stream_rules.specs.Heads.{head, at_close}
 use Rattle.stream_rules.specs.Rule.{Look, ready, waiting, look, Call, gives, wants, call}
-use Rattle.stream_rules.specs.Streams.{holds, held_of, holding, is_closed, holds_too_much, said_to_feed, said_to_turn, refuse, open_call, closed_call, says_open, says_closed, fed, shut, fresh, Feeds, Shuts, Makes}
-use Rattle.stream_rules.specs.Lister.{frames, fits, too_long, listed, said_to_list, list_left, Lists}
+use Rattle.stream_rules.specs.Streams.{holds, held_of, holding, said_to_feed, said_to_turn, refuse, open_call, closed_call, says_open, says_closed, fed, shut, fresh, Feeds, Shuts, Makes}
+use Rattle.stream_rules.specs.Lister.{frames, fits, listed, said_to_list, list_left, Lists}
 use Rattle.stream_rules.specs.declared.Reader.{Reader}
 use Rattle.stream_rules.specs.declared.Fed.{Fed}
-use Rattle.stream_rules.specs.declared.Outcome.{Outcome}
-use Rattle.stream_rules.specs.declared.Outcome.TheVariants.{Accepted, Refused as NotAccepted}
 use Rattle.stream_rules.specs.declared.Turned.{Turned}
-use Rattle.stream_rules.specs.declared.Listed.{Listed}
-use Rattle.stream_rules.specs.declared.Listed.TheVariants.{Count, Refused as NotListed}
+use Rattle.rules.specs.declared.Refusal.TheVariants.{IsClosed}
 
 -- a call, by its four tests
 abbrev by_tests : Reader → Call → Look → Bool → Bool → Bool → Bool → Fed
 by_tests r on left a b c d =
-    cond (not a) (refuse r no_family)
-    (cond (not b) (refuse r holds_too_much)
+    cond (not a) (refuse r NoFamily)
+    (cond (not b) (refuse r HoldsTooMuch)
     (cond c (open_call r on)
-    (cond (not d) (refuse r is_closed)
+    (cond (not d) (refuse r IsClosed)
     (closed_call r left))))
 
 open_says : (r : Reader) (c : Call) → said_to_feed (open_call r c).answer ≡ says_open r c
@@ -58,7 +59,7 @@ feeds {r} {offered} e = record {
       (is_family r.family) (leb r.count (holds r.family)) (eqb r.closed 0) (eqb (length offered) 0);
 }
 
-abbrev turned : Reader → Outcome → Turned
+abbrev turned : Reader → (Result Unit Refusal) → Turned
 turned r o = record { reader = r; outcome = o }
 
 pub shuts : {r : Reader} {t : Turned} → t ≡ shut r → Shuts r t
@@ -66,8 +67,8 @@ unfolding shut
 shuts {r} e = record { answers = e; says = ap (λ (x : Turned). said_to_turn x.outcome) e ∙ case (is_family r.family) (leb r.count (holds r.family)) }
   where
     case : (a b : Bool)
-        → let closed : Turned = turned (holding r.family 1 (held_of r) r.at r.skipped) Accepted in
-        said_to_turn (cond (not a) (turned r (NotAccepted no_family)) (cond (not b) (turned r (NotAccepted holds_too_much)) closed)).outcome
+        → let closed : Turned = turned (holding r.family 1 (held_of r) r.at r.skipped) (Ok tt) in
+        said_to_turn (cond (not a) (turned r (Err NoFamily)) (cond (not b) (turned r (Err HoldsTooMuch)) closed)).outcome
         ≡ cond (not a) (no no_family) (cond (not b) (no holds_too_much) (yes accepted []))
     case false b = refl
     case true false = refl
@@ -78,12 +79,12 @@ unfolding fresh
 makes {family} e = record { answers = e; says = ap (λ (x : Turned). said_to_turn x.outcome) e ∙ case (is_family family) }
   where
     case : (a : Bool)
-        → said_to_turn (cond a (turned (holding family 0 [] 0 0) Accepted) (turned (holding 0 0 [] 0 0) (NotAccepted no_family))).outcome
+        → said_to_turn (cond a (turned (holding family 0 [] 0 0) (Ok tt)) (turned (holding 0 0 [] 0 0) (Err NoFamily))).outcome
         ≡ cond (not a) (no no_family) (yes accepted [])
     case true = refl
     case false = refl
 
-pub lists : {family : ℕ} {capture out : List ℕ} {answer : Listed} {after : List ℕ} → answer ≡ listed family capture out → after ≡ list_left family capture out
+pub lists : {family : ℕ} {capture out : List ℕ} {answer : (Result ℕ Refusal)} {after : List ℕ} → answer ≡ listed family capture out → after ≡ list_left family capture out
     → Lists family capture out answer after
 lists {family} {capture} {out} e left = record {
   answers = e;
@@ -92,7 +93,7 @@ lists {family} {capture} {out} e left = record {
 }
   where
     case : (a b c : Bool)
-        → said_to_list (cond (not a) (NotListed no_family) (cond (not b) (NotListed too_long) (cond (not c) (NotListed no_room) (Count (length (frames family capture))))))
+        → said_to_list (cond (not a) (Err NoFamily) (cond (not b) (Err TooLong) (cond (not c) (Err NoRoom) (Ok (length (frames family capture))))))
         ≡ cond (not a) (no no_family) (cond (not b) (no too_long) (cond (not c) (no no_room) (yes starts_listed (pos (length (frames family capture)) ∷ []))))
     case false b c = refl
     case true false c = refl

@@ -3,6 +3,10 @@
 -- to find, in a state that is made from the bytes it holds, the place of the first and the bytes skipped, both wrapped.
 -- Assumes nothing.
 use Prim.Native.Nat.{ℕ, ◌+◌, ◌≤◌, ◌<◌, min}
+use Rattle.rules.specs.declared.Refusal.{Refusal}
+use Rattle.stream_rules.specs.declared.Progress.{Progress}
+use Rattle.stream_rules.specs.declared.Progress.TheVariants.{Done, More, Ready}
+use Rattle.std.specs.Prelude.{Ok, Result}
 use mathlib.Core.Path.{◌≡◌, refl, sym, ap, subst, subst₂, ◌∙◌}
 use mathlib.Core.Bool.{true}
 use mathlib.Core.List.{List, [], ◌∷◌, ◌++◌, map, append-nil}
@@ -17,10 +21,7 @@ use Rattle.stream_rules.specs.Heads.{Head, longest, head, at_close}
 use Rattle.stream_rules.specs.Rule.{Found, Look, ready, waiting, look, rule, Call, gives, wants, call}
 use Rattle.stream_rules.specs.Streams.{wrap, holding, open_call, closed_call, fed, shut, fresh, Makes}
 use Rattle.stream_rules.specs.declared.Reader.{Reader}
-use Rattle.stream_rules.specs.declared.Answer.{Answer}
-use Rattle.stream_rules.specs.declared.Answer.TheVariants.{Ready, More, Done}
 use Rattle.stream_rules.specs.declared.Fed.{Fed}
-use Rattle.stream_rules.specs.declared.Outcome.TheVariants.{Accepted}
 use Rattle.stream_rules.specs.declared.Turned.{Turned}
 use Rattle.stream_laws.specs.Sessions.{Draining, Session, Tells, Demand3, taken_of, wrapped, InTime}
 use Rattle.stream_laws.proofs.Facts.{Facts, top_above}
@@ -33,17 +34,17 @@ use Rattle.stream_laws.proofs.States.{wrap_on, held_of_holding, open-call, close
 abbrev pub open_fed : ℕ → ℕ → ℕ → Call → Fed
 open_fed family at skipped (gives taken k n f kept) = record {
   reader = holding family 0 kept (wrap (at + (k + n))) 0;
-  answer = Ready (record { taken = taken; start = wrap (at + k); skipped = wrap (skipped + k); length = n; frame = f });
+  answer = Ok (Ready (record { taken = taken; start = wrap (at + k); skipped = wrap (skipped + k); length = n; frame = f }));
 }
-open_fed family at skipped (wants taken k kept) = record { reader = holding family 0 kept (wrap (at + k)) (wrap (skipped + k)); answer = More taken }
+open_fed family at skipped (wants taken k kept) = record { reader = holding family 0 kept (wrap (at + k)) (wrap (skipped + k)); answer = Ok (More taken) }
 
 -- What a call gives that drains a closed one.
 abbrev pub closed_fed : ℕ → ℕ → ℕ → Look → Fed
 closed_fed family at skipped (ready k n f behind) = record {
   reader = holding family 1 behind (wrap (at + (k + n))) 0;
-  answer = Ready (record { taken = 0; start = wrap (at + k); skipped = wrap (skipped + k); length = n; frame = f });
+  answer = Ok (Ready (record { taken = 0; start = wrap (at + k); skipped = wrap (skipped + k); length = n; frame = f }));
 }
-closed_fed family at skipped (waiting k rest) = record { reader = holding family 1 [] (wrap (at + k)) (wrap (skipped + k)); answer = Done 0 }
+closed_fed family at skipped (waiting k rest) = record { reader = holding family 1 [] (wrap (at + k)) (wrap (skipped + k)); answer = Ok (Done 0) }
 
 open_wraps : (family : ℕ) (bytes : List ℕ) (at skipped : ℕ) (c : Call) → open_call (holding family 0 bytes (wrap at) (wrap skipped)) c ≡ open_fed family at skipped c
 open_wraps family bytes at skipped (gives taken k n f kept) = rw (wrap_on at (k + n), wrap_on at k, wrap_on skipped k)
@@ -68,10 +69,10 @@ module _ (family : ℕ) (known : is_family family ≡ true) (bytes : List ℕ) (
       ∙ ap (λ (l : List ℕ). closed_call r (look (at_close (head family)) l)) (held_of_holding family 1 bytes (wrap at) (wrap skipped))
       ∙ closed_wraps family bytes at skipped (look (at_close (head family)) bytes)
 
-  pub shut_holding : (closed : ℕ) → shut (holding family closed bytes (wrap at) (wrap skipped)) ≡ record { reader = holding family 1 bytes (wrap at) (wrap skipped); outcome = Accepted }
+  pub shut_holding : (closed : ℕ) → shut (holding family closed bytes (wrap at) (wrap skipped)) ≡ record { reader = holding family 1 bytes (wrap at) (wrap skipped); outcome = (Ok tt) }
   shut_holding closed =
       shut_call (holding family closed bytes (wrap at) (wrap skipped)) known (omega arith)
-      ∙ ap (λ (l : List ℕ). record { reader = holding family 1 l (wrap at) (wrap skipped); outcome = Accepted }) (held_of_holding family closed bytes (wrap at) (wrap skipped))
+      ∙ ap (λ (l : List ℕ). record { reader = holding family 1 l (wrap at) (wrap skipped); outcome = (Ok tt) }) (held_of_holding family closed bytes (wrap at) (wrap skipped))
 
 -- what a call that offered the first bytes of what was left, and took some of those, leaves
 left_behind : (most taken : ℕ) (left : List ℕ) → taken ≤ length (take most left) → drop taken (take most left) ++ drop most left ≡ drop taken left
@@ -83,10 +84,10 @@ taken_left most taken left p =
     rw (length-drop taken left) (omega arith)
 
 -- What answers tell, from what those behind the first tell. The first hands out a frame:
-abbrev handing_out : ℕ → Found → Answer
-handing_out t f = Ready (record { taken = t; start = wrap f.start; skipped = wrap f.skipped; length = f.length; frame = f.frame })
+abbrev handing_out : ℕ → Found → (Result Progress Refusal)
+handing_out t f = Ok (Ready (record { taken = t; start = wrap f.start; skipped = wrap f.skipped; length = f.length; frame = f.frame }))
 
-module _ (top before after t left left' : ℕ) (took : before + t ≡ after) (rest : t + left' ≡ left) (answers : List Answer) where
+module _ (top before after t left left' : ℕ) (took : before + t ≡ after) (rest : t + left' ≡ left) (answers : List (Result Progress Refusal)) where
   tells_ready : (f : Found) (fs fs' : List Found) → fs ≡ f ∷ fs' → after ≤ f.start + top
       → Tells top after left' fs' answers
       → Tells top before left fs (handing_out t f ∷ answers)
@@ -99,7 +100,7 @@ module _ (top before after t left left' : ℕ) (took : before + t ≡ after) (re
   }
 
   -- or it wants more:
-  tells_more : (fs fs' : List Found) → fs ≡ fs' → Tells top after left' fs' answers → Tells top before left fs (More t ∷ answers)
+  tells_more : (fs fs' : List Found) → fs ≡ fs' → Tells top after left' fs' answers → Tells top before left fs (Ok (More t) ∷ answers)
   unfolding every
   tells_more fs fs' finds s = record {
     list = s.list ∙ ap (map wrapped) (sym finds);
@@ -109,7 +110,7 @@ module _ (top before after t left left' : ℕ) (took : before + t ≡ after) (re
   }
 
   -- or it says done, and there is no frame left:
-  tells_done : (fs : List Found) → fs ≡ [] → Tells top after left' [] answers → Tells top before left fs (Done t ∷ answers)
+  tells_done : (fs : List Found) → fs ≡ [] → Tells top after left' [] answers → Tells top before left fs (Ok (Done t) ∷ answers)
   unfolding every
   tells_done fs finds s = record {
     list = s.list ∙ ap (map wrapped) (sym finds);
@@ -120,19 +121,19 @@ module _ (top before after t left left' : ℕ) (took : before + t ≡ after) (re
 
 -- What is to be shown of the answers from a state on: where it holds these bytes, with the place of the first and the
 -- bytes skipped before it, they tell what the rule has still to find.
-abbrev OpenTells : ℕ → Reader → List ℕ → List Answer → Type 0
+abbrev OpenTells : ℕ → Reader → List ℕ → List (Result Progress Refusal) → Type 0
 OpenTells family r left answers =
     (bytes : List ℕ) (at skipped : ℕ) → r ≡ holding family 0 bytes (wrap at) (wrap skipped) → length bytes < longest family
     → Tells (longest family) (at + length bytes) (length left) (rule (head family) 0 at skipped (bytes ++ left)) answers
 
-abbrev ClosedTells : ℕ → Reader → List Answer → Type 0
+abbrev ClosedTells : ℕ → Reader → List (Result Progress Refusal) → Type 0
 ClosedTells family r answers =
     (bytes : List ℕ) (at skipped : ℕ) → r ≡ holding family 1 bytes (wrap at) (wrap skipped) → length bytes < longest family
     → Tells (longest family) (at + length bytes) 0 (rule (head family) 0 at skipped bytes) answers
 
 module _ (family : ℕ) (known : is_family family ≡ true) (facts : Facts (head family) (longest family)) where
   -- A call of an open reader, by what it gives:
-  call_tells : (left : List ℕ) (most : ℕ) (answers : List Answer) (bytes : List ℕ) (at skipped : ℕ) → length bytes < longest family
+  call_tells : (left : List ℕ) (most : ℕ) (answers : List (Result Progress Refusal)) (bytes : List ℕ) (at skipped : ℕ) → length bytes < longest family
       → (c : Call) → call (head family) bytes (take most left) ≡ c
       → let a : Fed = open_fed family at skipped c in
       OpenTells family a.reader (drop (taken_of a.answer) left) answers
@@ -191,7 +192,7 @@ module _ (family : ℕ) (known : is_family family ≡ true) (facts : Facts (head
       (later kept (at + k) (skipped + k) refl (wants_short h top facts bytes offered taken k kept e))
 
   -- A call that drains a closed reader hands out a frame,
-  drain_tells : (answers : List Answer) (bytes : List ℕ) (at skipped k n : ℕ) (f : Frame) (behind : List ℕ) → length bytes < longest family
+  drain_tells : (answers : List (Result Progress Refusal)) (bytes : List ℕ) (at skipped k n : ℕ) (f : Frame) (behind : List ℕ) → length bytes < longest family
       → look (at_close (head family)) bytes ≡ ready k n f behind
       → ClosedTells family (holding family 1 behind (wrap (at + (k + n))) 0) answers
       → Tells (longest family) (at + length bytes) 0 (rule (head family) 0 at skipped bytes) (handing_out 0 (found (at + k) (skipped + k) n f) ∷ answers)
@@ -216,9 +217,9 @@ module _ (family : ℕ) (known : is_family family ≡ true) (facts : Facts (head
       (later behind (at + (k + n)) 0 refl (omega arith))
 
   -- or it is done, and then no frame is left.
-  done_tells : (answers : List Answer) (bytes : List ℕ) (at skipped k : ℕ) (rest : List ℕ) → look (at_close (head family)) bytes ≡ waiting k rest
+  done_tells : (answers : List (Result Progress Refusal)) (bytes : List ℕ) (at skipped k : ℕ) (rest : List ℕ) → look (at_close (head family)) bytes ≡ waiting k rest
       → Tells (longest family) (at + k) 0 [] answers
-      → Tells (longest family) (at + length bytes) 0 (rule (head family) 0 at skipped bytes) (Done 0 ∷ answers)
+      → Tells (longest family) (at + length bytes) 0 (rule (head family) 0 at skipped bytes) (Ok (Done 0) ∷ answers)
   done_tells answers bytes at skipped k rest e later =
       let h : List ℕ → Head = head family in
       let top : ℕ = longest family in
@@ -237,7 +238,7 @@ module _ (family : ℕ) (known : is_family family ≡ true) (facts : Facts (head
       later
 
   -- All calls after the close, going on or ending there:
-  closed_tells : (answers : List Answer) (bytes : List ℕ) (at skipped : ℕ) → length bytes < longest family
+  closed_tells : (answers : List (Result Progress Refusal)) (bytes : List ℕ) (at skipped : ℕ) → length bytes < longest family
       → (l : Look) → look (at_close (head family)) bytes ≡ l
       → let a : Fed = closed_fed family at skipped l in
       ClosedTells family a.reader answers
@@ -250,14 +251,14 @@ module _ (family : ℕ) (known : is_family family ≡ true) (facts : Facts (head
 
   end_tells : (bytes : List ℕ) (at skipped n : ℕ) (l : Look) → look (at_close (head family)) bytes ≡ l
       → let a : Fed = closed_fed family at skipped l in
-      a.answer ≡ Done n
+      a.answer ≡ Ok (Done n)
       → Tells (longest family) (at + length bytes) 0 (rule (head family) 0 at skipped bytes) (a.answer ∷ [])
   unfolding every
   end_tells bytes at skipped n (ready k m f behind) e done = let z : ◌≡◌ {A = ℕ} 0 1 = cc in absurd (omega arith)
   end_tells bytes at skipped n (waiting k rest) e done =
       done_tells [] bytes at skipped k rest e (record { list = refl; all_taken = refl; in_time = tt; none_refused = refl })
 
-  drained : {r : Reader} {answers : List Answer} → Draining r answers → ClosedTells family r answers
+  drained : {r : Reader} {answers : List (Result Progress Refusal)} → Draining r answers → ClosedTells family r answers
   drained (Draining.calls {answers = answers} a e later) bytes at skipped s few =
       subst
       (λ (b : Fed). ClosedTells family b.reader answers → Tells (longest family) (at + length bytes) 0 (rule (head family) 0 at skipped bytes) (b.answer ∷ answers))
@@ -268,13 +269,13 @@ module _ (family : ℕ) (known : is_family family ≡ true) (facts : Facts (head
       drained later bytes at skipped (ap (λ (u : Turned). u.reader) (e.answers ∙ ap shut s ∙ shut_holding family known bytes few at skipped 1)) few
   drained (Draining.ends a n e done) bytes at skipped s few =
       subst
-      (λ (b : Fed). b.answer ≡ Done n → Tells (longest family) (at + length bytes) 0 (rule (head family) 0 at skipped bytes) (b.answer ∷ []))
+      (λ (b : Fed). b.answer ≡ Ok (Done n) → Tells (longest family) (at + length bytes) 0 (rule (head family) 0 at skipped bytes) (b.answer ∷ []))
       (sym (e.answers ∙ ap (λ (r : Reader). fed r []) s ∙ fed_closed family known bytes few at skipped))
       (end_tells bytes at skipped n (look (at_close (head family)) bytes) refl)
       done
 
   -- All calls of a session:
-  told : {r : Reader} {left lengths : List ℕ} {answers : List Answer} → Session r left lengths answers → OpenTells family r left answers
+  told : {r : Reader} {left lengths : List ℕ} {answers : List (Result Progress Refusal)} → Session r left lengths answers → OpenTells family r left answers
   told (Session.calls {left = left} {answers = answers} most a e later) bytes at skipped s few =
       subst
       (λ (b : Fed).
@@ -296,6 +297,6 @@ fresh_holding family known t e = ap (λ (u : Turned). u.reader) e ∙ rw known
 -- Demand 3: take a fresh reader and a stream, cut into calls anywhere.
 pub demand3 : (family : ℕ) → is_family family ≡ true → Facts (head family) (longest family)
     → (t : Turned) → Makes family t
-    → (stream lengths : List ℕ) (answers : List Answer) → Session t.reader stream lengths answers → Demand3 family stream answers
+    → (stream lengths : List ℕ) (answers : List (Result Progress Refusal)) → Session t.reader stream lengths answers → Demand3 family stream answers
 demand3 family known facts t e stream lengths answers session =
     told family known facts session [] 0 0 (fresh_holding family known t e.answers) (top_above (head family) (longest family) facts)

@@ -1,6 +1,9 @@
 -- The states of a reader, and its calls on any state: what refuses, what the unused places are, and that what a call does
 -- to a state follows from the bytes that it holds. Each goes by the clauses of `fed` and `shut`. Assumes nothing.
 use Prim.Native.Nat.{ℕ, suc, ◌+◌, ◌-◌, ◌^◌, ◌≤◌, ◌<◌}
+use Rattle.stream_rules.specs.declared.Progress.TheVariants.{Done, Ready}
+use Rattle.rules.specs.declared.Refusal.TheVariants.{HoldsTooMuch, NoFamily}
+use Rattle.std.specs.Prelude.{Err, Ok}
 use mathlib.Core.Path.{◌≡◌, refl, sym, ap, ap₂, ◌∙◌}
 use mathlib.Core.Bool.{Bool, true, false, cond, true≢false, false≢true}
 use mathlib.Core.List.{List, [], ◌∷◌, ◌++◌}
@@ -10,19 +13,19 @@ use borrow.Author.Tests.{le-leb, lt-leb, leb-true, leb-false, eq-eqb, ne_eqb, eq
 use lib.Dec.{eqb, leb}
 use lib.ListN.{length, replicate, length-append, length-replicate, length-take}
 use lib.Seq.{take-append_seam}
-use Rattle.rules.specs.Answers.{no_family, is_family}
+use Rattle.rules.specs.Answers.{is_family}
 use Rattle.stream_rules.specs.Heads.{sentence_brackets, message_brackets, around, longest, head, at_close}
 use Rattle.stream_rules.specs.Rule.{Look, ready, waiting, look, Call, gives, wants, call}
-use Rattle.stream_rules.specs.Streams.{wrap, holds, held_of, holding, is_closed, holds_too_much, refuse, go_on, open_call, closed_call, fed, shut, fresh, Feeds}
+use Rattle.stream_rules.specs.Streams.{wrap, holds, held_of, holding, refuse, go_on, open_call, closed_call, fed, shut, fresh, Feeds}
 use Rattle.stream_rules.specs.declared.Reader.{Reader}
 use Rattle.stream_rules.specs.declared.Ready as ReadyType
-use Rattle.stream_rules.specs.declared.Answer.TheVariants.{Ready, Done}
 use Rattle.stream_rules.specs.declared.Fed.{Fed}
-use Rattle.stream_rules.specs.declared.Outcome.TheVariants.{Accepted, Refused as NotAccepted}
 use Rattle.stream_rules.specs.declared.Turned.{Turned}
 use Rattle.stream_laws.specs.Sessions.{taken_of, is_no_refusal}
 use Rattle.stream_laws.proofs.Facts.{Facts, top_above}
 use Rattle.stream_laws.proofs.Calls.{call_gives, call_wants, gives_adds_up, gives_above, gives_short, wants_short, drain_adds_up, drain_above}
+use Rattle.rules.specs.declared.Refusal.TheVariants.{IsClosed}
+use Rattle.rules.specs.declared.Refusal.{Refusal}
 
 -- A count that has wrapped is counted on as if it had not.
 pub wrap_on : (a b : ℕ) → wrap (wrap a + b) ≡ wrap (a + b)
@@ -43,16 +46,16 @@ pub held_of_holding : (family closed : ℕ) (bytes : List ℕ) (at skipped : ℕ
 held_of_holding family closed bytes at skipped = take-append_seam bytes (replicate (133 - length bytes) 0)
 
 -- Refusals, in their order: 1, then 6, then 5. Each gives its number only, and the state as it was.
-pub refused_1 : (r : Reader) (offered : List ℕ) → is_family r.family ≡ false → fed r offered ≡ refuse r no_family
+pub refused_1 : (r : Reader) (offered : List ℕ) → is_family r.family ≡ false → fed r offered ≡ refuse r NoFamily
 unfolding fed
 refused_1 r offered e = rw e
 
-pub refused_6 : (r : Reader) (offered : List ℕ) → is_family r.family ≡ true → holds r.family < r.count → fed r offered ≡ refuse r holds_too_much
+pub refused_6 : (r : Reader) (offered : List ℕ) → is_family r.family ≡ true → holds r.family < r.count → fed r offered ≡ refuse r HoldsTooMuch
 unfolding fed
 refused_6 r offered e p = rw (e, lt-leb r.count (holds r.family) p)
 
 pub refused_5 : (r : Reader) (offered : List ℕ) → is_family r.family ≡ true → r.count ≤ holds r.family → (r.closed ≡ 0 → ⊥) → (length offered ≡ 0 → ⊥)
-    → fed r offered ≡ refuse r is_closed
+    → fed r offered ≡ refuse r IsClosed
 unfolding fed
 refused_5 r offered e p q s = rw (e, le-leb r.count (holds r.family) p, ne_eqb r.closed 0 q, ne_eqb (length offered) 0 s)
 
@@ -67,24 +70,24 @@ pub closed-call : (r : Reader) → is_family r.family ≡ true → r.count ≤ h
 unfolding fed
 closed-call r e p q = rw (e, le-leb r.count (holds r.family) p, ne_eqb r.closed 0 q)
 
-pub shut_1 : (r : Reader) → is_family r.family ≡ false → shut r ≡ record { reader = r; outcome = NotAccepted no_family }
+pub shut_1 : (r : Reader) → is_family r.family ≡ false → shut r ≡ record { reader = r; outcome = Err NoFamily }
 unfolding shut
 shut_1 r e = rw e
 
-pub shut_6 : (r : Reader) → is_family r.family ≡ true → holds r.family < r.count → shut r ≡ record { reader = r; outcome = NotAccepted holds_too_much }
+pub shut_6 : (r : Reader) → is_family r.family ≡ true → holds r.family < r.count → shut r ≡ record { reader = r; outcome = Err HoldsTooMuch }
 unfolding shut
 shut_6 r e p = rw (e, lt-leb r.count (holds r.family) p)
 
 pub shut_call : (r : Reader) → is_family r.family ≡ true → r.count ≤ holds r.family
-    → shut r ≡ record { reader = holding r.family 1 (held_of r) r.at r.skipped; outcome = Accepted }
+    → shut r ≡ record { reader = holding r.family 1 (held_of r) r.at r.skipped; outcome = (Ok tt) }
 unfolding shut
 shut_call r e p = rw (e, le-leb r.count (holds r.family) p)
 
-pub fresh_1 : (family : ℕ) → is_family family ≡ false → fresh family ≡ record { reader = holding 0 0 [] 0 0; outcome = NotAccepted no_family }
+pub fresh_1 : (family : ℕ) → is_family family ≡ false → fresh family ≡ record { reader = holding 0 0 [] 0 0; outcome = Err NoFamily }
 unfolding fresh
 fresh_1 family e = rw e
 
-pub fresh_call : (family : ℕ) → is_family family ≡ true → fresh family ≡ record { reader = holding family 0 [] 0 0; outcome = Accepted }
+pub fresh_call : (family : ℕ) → is_family family ≡ true → fresh family ≡ record { reader = holding family 0 [] 0 0; outcome = (Ok tt) }
 unfolding fresh
 fresh_call family e = rw e
 
@@ -109,16 +112,16 @@ kind r offered = go (is_family r.family) (leb r.count (holds r.family)) (eqb r.c
 
 -- What holds of a call's result, if it holds of each refusal, of an open reader's call and of a closed one's.
 module _ (r : Reader) (offered : List ℕ) (P : Fed → Type 0)
-    (on_refusal : (n : ℕ) → P (refuse r n))
+    (on_refusal : (n : Refusal) → P (refuse r n))
     (on_open : is_family r.family ≡ true → r.count ≤ holds r.family → P (open_call r (call (head r.family) (held_of r) offered)))
     (on_closed : is_family r.family ≡ true → r.count ≤ holds r.family → (r.closed ≡ 0 → ⊥) → P (closed_call r (look (at_close (head r.family)) (held_of r)))) where
   by_kind : P (fed r offered)
   by_kind = go (kind r offered)
     where
       go : CallKind r offered → P (fed r offered)
-      go (no-family p) = rw (refused_1 r offered p) (on_refusal no_family)
-      go (too_much p q) = rw (refused_6 r offered p q) (on_refusal holds_too_much)
-      go (offers_closed p q s t) = rw (refused_5 r offered p q s t) (on_refusal is_closed)
+      go (no-family p) = rw (refused_1 r offered p) (on_refusal NoFamily)
+      go (too_much p q) = rw (refused_6 r offered p q) (on_refusal HoldsTooMuch)
+      go (offers_closed p q s t) = rw (refused_5 r offered p q s t) (on_refusal IsClosed)
       go (feeds p q s) = rw (open-call r offered p q s) (on_open p q)
       go (drains p q s t) = rw (t, closed-call r p q s) (on_closed p q s)
 
@@ -215,7 +218,7 @@ pub record Onward (r : Reader) (offered : List ℕ) (taken : ℕ) (after : Reade
   pub fewer : after.count < r.count + taken
 
 module _ (r : Reader) (offered : List ℕ) (facts : Facts (head r.family) (longest r.family)) where
-  open_onward : (c : Call) → call (head r.family) (held_of r) offered ≡ c → (x : ReadyType.Ready) → (open_call r c).answer ≡ Ready x
+  open_onward : (c : Call) → call (head r.family) (held_of r) offered ≡ c → (x : ReadyType.Ready) → (open_call r c).answer ≡ Ok (Ready x)
       → Onward r offered x.taken (open_call r c).reader
   open_onward (gives taken k n f kept) e x is =
       let same : taken ≡ x.taken = ap taken_of is in
@@ -226,7 +229,7 @@ module _ (r : Reader) (offered : List ℕ) (facts : Facts (head r.family) (longe
       record { within = omega (arith, same, within); fewer = omega (arith, same, adds_up, above, held) }
   open_onward (wants taken k kept) e x is = let z : ◌≡◌ {A = ℕ} 0 1 = cc in absurd (omega arith)
 
-  closed_onward : (l : Look) → look (at_close (head r.family)) (held_of r) ≡ l → (x : ReadyType.Ready) → (closed_call r l).answer ≡ Ready x
+  closed_onward : (l : Look) → look (at_close (head r.family)) (held_of r) ≡ l → (x : ReadyType.Ready) → (closed_call r l).answer ≡ Ok (Ready x)
       → Onward r offered x.taken (closed_call r l).reader
   closed_onward (ready k n f behind) e x is =
       let same : 0 ≡ x.taken = ap taken_of is in
@@ -236,11 +239,11 @@ module _ (r : Reader) (offered : List ℕ) (facts : Facts (head r.family) (longe
       record { within = omega (arith, same); fewer = omega (arith, same, adds_up, above, held) }
   closed_onward (waiting k rest) e x is = let z : ◌≡◌ {A = ℕ} 0 1 = cc in absurd (omega arith)
 
-  pub onward : (x : ReadyType.Ready) → (fed r offered).answer ≡ Ready x → Onward r offered x.taken (fed r offered).reader
+  pub onward : (x : ReadyType.Ready) → (fed r offered).answer ≡ Ok (Ready x) → Onward r offered x.taken (fed r offered).reader
   onward x =
       by_kind r
       offered
-      (λ a. a.answer ≡ Ready x → Onward r offered x.taken a.reader)
+      (λ a. a.answer ≡ Ok (Ready x) → Onward r offered x.taken a.reader)
       (λ n e. let z : ◌≡◌ {A = ℕ} 0 1 = cc in absurd (omega arith))
       (λ p q e. open_onward (call (head r.family) (held_of r) offered) refl x e)
       (λ p q s e. closed_onward (look (at_close (head r.family)) (held_of r)) refl x e)
@@ -275,7 +278,7 @@ pub record SameCall (a b : Fed) : Type 0 where
   pub state : is_no_refusal a.answer ≡ true → a.reader ≡ b.reader
 
 module _ (r : Reader) (held : List ℕ) (used : held_of (with_held r held) ≡ held_of r) (offered : List ℕ) where
-  both_refused : (n : ℕ) → fed r offered ≡ refuse r n → fed (with_held r held) offered ≡ refuse (with_held r held) n
+  both_refused : (n : Refusal) → fed r offered ≡ refuse r n → fed (with_held r held) offered ≡ refuse (with_held r held) n
       → SameCall (fed r offered) (fed (with_held r held) offered)
   both_refused n e f = rw (e, f) (record { answer = refl; state = λ t. absurd (false≢true t) })
 
@@ -291,9 +294,9 @@ module _ (r : Reader) (held : List ℕ) (used : held_of (with_held r held) ≡ h
   closed_same (waiting k rest) = refl
 
   same_by_kind : CallKind r offered → SameCall (fed r offered) (fed (with_held r held) offered)
-  same_by_kind (no-family p) = both_refused no_family (refused_1 r offered p) (refused_1 (with_held r held) offered p)
-  same_by_kind (too_much p q) = both_refused holds_too_much (refused_6 r offered p q) (refused_6 (with_held r held) offered p q)
-  same_by_kind (offers_closed p q s t) = both_refused is_closed (refused_5 r offered p q s t) (refused_5 (with_held r held) offered p q s t)
+  same_by_kind (no-family p) = both_refused NoFamily (refused_1 r offered p) (refused_1 (with_held r held) offered p)
+  same_by_kind (too_much p q) = both_refused HoldsTooMuch (refused_6 r offered p q) (refused_6 (with_held r held) offered p q)
+  same_by_kind (offers_closed p q s t) = both_refused IsClosed (refused_5 r offered p q s t) (refused_5 (with_held r held) offered p q s t)
   same_by_kind (feeds p q s) =
       both_taken
       (open-call r offered p q s
@@ -325,7 +328,7 @@ pub shut_no_effect : (r : Reader) (held : List ℕ) → held_of (with_held r hel
     → shut (with_held r held) ≡ shut r
 shut_no_effect r held used p q =
     shut_call (with_held r held) p q
-    ∙ ap (λ (l : List ℕ). record { reader = holding r.family 1 l r.at r.skipped; outcome = Accepted }) used
+    ∙ ap (λ (l : List ℕ). record { reader = holding r.family 1 l r.at r.skipped; outcome = (Ok tt) }) used
     ∙ sym (shut_call r p q)
 
 -- Closing twice is as once, whatever the state.
@@ -341,43 +344,43 @@ shut_twice r = go (kind r [])
         let few : length bytes ≤ holds r.family = rw (length-take r.count r.held) (omega arith) in
         ap (λ (t : Turned). shut t.reader) (shut_call r p q)
         ∙ shut_call (holding r.family 1 bytes r.at r.skipped) p few
-        ∙ ap (λ (l : List ℕ). record { reader = holding r.family 1 l r.at r.skipped; outcome = Accepted }) (held_of_holding r.family 1 bytes r.at r.skipped)
+        ∙ ap (λ (l : List ℕ). record { reader = holding r.family 1 l r.at r.skipped; outcome = (Ok tt) }) (held_of_holding r.family 1 bytes r.at r.skipped)
         ∙ sym (shut_call r p q)
 
     go : CallKind r [] → shut (shut r).reader ≡ shut r
-    go (no-family p) = as_before (record { reader = r; outcome = NotAccepted no_family }) (shut_1 r p) refl
-    go (too_much p q) = as_before (record { reader = r; outcome = NotAccepted holds_too_much }) (shut_6 r p q) refl
+    go (no-family p) = as_before (record { reader = r; outcome = Err NoFamily }) (shut_1 r p) refl
+    go (too_much p q) = as_before (record { reader = r; outcome = Err HoldsTooMuch }) (shut_6 r p q) refl
     go (offers_closed p q s t) = accepted p q
     go (feeds p q s) = accepted p q
     go (drains p q s t) = accepted p q
 
 -- Once a call answers that it is done, so does every later call that offers nothing, and the state stays as it is.
 done_again : (r : Reader) → is_family r.family ≡ true → (r.closed ≡ 0 → ⊥) → (k : ℕ)
-    → let s : Reader = (go_on r k [] (Done 0)).reader in fed s [] ≡ record { reader = s; answer = Done 0 }
+    → let s : Reader = (go_on r k [] (Done 0)).reader in fed s [] ≡ record { reader = s; answer = Ok (Done 0) }
 unfolding look
 done_again r p closed k =
     closed-call (go_on r k [] (Done 0)).reader p (omega arith) closed
-    ∙ ap₂ (λ (at skipped : ℕ). record { reader = holding r.family r.closed [] at skipped; answer = Done 0 }) (again (r.at + k)) (again (r.skipped + k))
+    ∙ ap₂ (λ (at skipped : ℕ). record { reader = holding r.family r.closed [] at skipped; answer = Ok (Done 0) }) (again (r.at + k)) (again (r.skipped + k))
   where
     again : (a : ℕ) → wrap (wrap a + 0) ≡ wrap a
     again a = wrap_on a 0 ∙ ap wrap (add-zero a)
 
-pub done_stays : (r : Reader) (offered : List ℕ) (n : ℕ) → (fed r offered).answer ≡ Done n
-    → fed (fed r offered).reader [] ≡ record { reader = (fed r offered).reader; answer = Done 0 }
+pub done_stays : (r : Reader) (offered : List ℕ) (n : ℕ) → (fed r offered).answer ≡ Ok (Done n)
+    → fed (fed r offered).reader [] ≡ record { reader = (fed r offered).reader; answer = Ok (Done 0) }
 done_stays r offered n =
     by_kind r
     offered
-    (λ a. a.answer ≡ Done n → fed a.reader [] ≡ record { reader = a.reader; answer = Done 0 })
+    (λ a. a.answer ≡ Ok (Done n) → fed a.reader [] ≡ record { reader = a.reader; answer = Ok (Done 0) })
     (λ m e. let z : ◌≡◌ {A = ℕ} 0 1 = cc in absurd (omega arith))
     (λ p q e. absurd (on_open (call (head r.family) (held_of r) offered) e))
     (λ p q s. on_closed p s (look (at_close (head r.family)) (held_of r)))
   where
-    on_open : (c : Call) → (open_call r c).answer ≡ Done n → ⊥
+    on_open : (c : Call) → (open_call r c).answer ≡ Ok (Done n) → ⊥
     on_open (gives taken k m f kept) e = let z : ◌≡◌ {A = ℕ} 0 1 = cc in omega arith
     on_open (wants taken k kept) e = let z : ◌≡◌ {A = ℕ} 0 1 = cc in omega arith
 
-    on_closed : is_family r.family ≡ true → (r.closed ≡ 0 → ⊥) → (l : Look) → (closed_call r l).answer ≡ Done n
-        → fed (closed_call r l).reader [] ≡ record { reader = (closed_call r l).reader; answer = Done 0 }
+    on_closed : is_family r.family ≡ true → (r.closed ≡ 0 → ⊥) → (l : Look) → (closed_call r l).answer ≡ Ok (Done n)
+        → fed (closed_call r l).reader [] ≡ record { reader = (closed_call r l).reader; answer = Ok (Done 0) }
     on_closed p s (ready k m f behind) e = let z : ◌≡◌ {A = ℕ} 0 1 = cc in absurd (omega arith)
     on_closed p s (waiting k rest) e = done_again r p s k
 
@@ -434,12 +437,12 @@ module _ (r : Reader) (facts : Facts (head r.family) (longest r.family)) where
       (ap (λ (a : Fed). is_no_refusal a.answer) (closed-call r s.known s.few (λ e. let z : ◌≡◌ {A = ℕ} 1 0 = sym s.flag ∙ e in omega (arith, z)))
       ∙ closed_no_refusal r (look (at_close (head r.family)) (held_of r)))
 
-  pub served_shut : {closed : ℕ} → Serves closed r → ((shut r).outcome ≡ Accepted) × Serves 1 (shut r).reader
+  pub served_shut : {closed : ℕ} → Serves closed r → ((shut r).outcome ≡ (Ok tt)) × Serves 1 (shut r).reader
   served_shut s =
       let e = shut_call r s.known s.few in
       (ap (λ (t : Turned). t.outcome) e, rw e (record { known = s.known; few = omega (arith, s.few, length-take r.count r.held); flag = refl }))
 
-pub served_fresh : (family : ℕ) → is_family family ≡ true → ((fresh family).outcome ≡ Accepted) × Serves 0 (fresh family).reader
+pub served_fresh : (family : ℕ) → is_family family ≡ true → ((fresh family).outcome ≡ (Ok tt)) × Serves 0 (fresh family).reader
 served_fresh family known =
     let e = fresh_call family known in
     (ap (λ (t : Turned). t.outcome) e, rw e (record { known = known; few = omega arith; flag = refl }))

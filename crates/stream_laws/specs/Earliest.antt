@@ -1,16 +1,16 @@
 -- Demand 3's rule once more, said with the reader of one frame alone: the good frame that begins earliest, then the one
 -- that begins earliest from right behind it on, and so on.
 use Rattle.std.specs.Prelude.{ℕ, ◌+◌, ◌≤◌, ◌<◌, ◌≡◌, List, [], ◌∷◌, length}
+use Rattle.std.specs.Prelude.{Ok}
 use Rattle.rules.specs.Bytes.{part}
 use Rattle.rules.specs.Answers.{read_one}
 use Rattle.rules.specs.declared.Frame.{Frame}
-use Rattle.rules.specs.declared.Reading.TheVariants.{Good}
 use Rattle.stream_rules.specs.Rule.{Found}
 
 -- the n bytes from a place on are, as a whole, one good frame
 pub record GoodAt (family : ℕ) (bs : List ℕ) (place n : ℕ) (f : Frame) : Type 0 where
   pub inside : place + n ≤ length bs
-  pub reads : read_one family (part place n bs) ≡ Good f
+  pub reads : read_one family (part place n bs) ≡ Ok f
 
 -- no good frame begins from one place on before another
 abbrev pub NoneBetween : ℕ → List ℕ → ℕ → ℕ → Type 0

@@ -1,15 +1,13 @@
 -- What stands at the head of a list of bytes: an undecided start, a bad one, or a good frame.
-use Rattle.std.specs.Prelude.{ℕ, ◌+◌, ◌-◌, Bool, true, ◌&&◌, ◌||◌, cond, List, [], ◌∷◌, eqb, leb, ltb, length, take, drop, get_or}
+use Rattle.std.specs.Prelude.{ℕ, ◌+◌, ◌-◌, Bool, true, ◌&&◌, ◌||◌, cond, List, [], ◌∷◌, eqb, leb, ltb, length, take, drop, get_or, Ok, Err}
 use Prim.Native.Char.{code}
 use Rattle.rules.specs.Bytes.{every, text_byte}
 use Rattle.rules.specs.Codes.{packet_length}
 use Rattle.rules.specs.Status.{longest_report, report_length_in}
 use Rattle.rules.specs.Sentences.{longest_payload, shortest_sentence}
 use Rattle.rules.specs.Messages.{longest_body, shortest_message}
-use Rattle.rules.specs.Answers.{replies, commands, messages, read_one}
+use Rattle.rules.specs.Answers.{replies, commands, messages, Read, read_one}
 use Rattle.rules.specs.declared.Frame.{Frame}
-use Rattle.rules.specs.declared.Reading.{Reading}
-use Rattle.rules.specs.declared.Reading.TheVariants.{Good, Refused}
 use Rattle.stream_rules.specs.declared.Brackets.{Brackets}
 
 -- Families 1 and 3 are SPE packets: they go by marks and a count. Families 2 and 4 are sentences and messages: they stand
@@ -98,9 +96,9 @@ pub data Head : Type 0 where
   bad : Head
   good : ℕ → Frame → Head
 
-abbrev pub head_of : ℕ → Reading → Head
-head_of n (Good f) = good n f
-head_of n (Refused number) = bad
+abbrev pub head_of : ℕ → Read → Head
+head_of n (Ok f) = good n f
+head_of n (Err e) = bad
 
 unfoldable pub head : ℕ → List ℕ → Head
 head family bs = cond (undecided family bs) wait (head_of (length_at family bs) (read_one family (take (length_at family bs) bs)))

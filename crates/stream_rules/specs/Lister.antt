@@ -1,12 +1,13 @@
 -- The lister, its second entry, and the order of two stamps.
-use Rattle.std.specs.Prelude.{ℕ, ◌+◌, ◌-◌, ◌/◌, ◌%◌, ◌^◌, ◌≡◌, Bool, ◌&&◌, cond, not, List, [], ◌∷◌, ◌++◌, map, eqb, leb, ltb, length, drop, pos}
-use Rattle.rules.specs.Answers.{starts_listed, Says, no, yes, no_family, no_room, is_family}
+use Rattle.std.specs.Prelude.{ℕ, ◌+◌, ◌-◌, ◌/◌, ◌%◌, ◌^◌, ◌≡◌, Bool, ◌&&◌, cond, not, List, [], ◌∷◌, ◌++◌, map, eqb, leb, ltb, length, drop, pos, Result, Ok, Err}
+use Rattle.rules.specs.Answers.{starts_listed, Says, no, yes, is_family}
+use Rattle.rules.specs.Refusals.{no_family, no_room, too_long, number_for}
+use Rattle.rules.specs.declared.Refusal.{Refusal}
+use Rattle.rules.specs.declared.Refusal.TheVariants.{NoFamily, NoRoom, TooLong}
 use Rattle.std.specs.Borrow.{Bor}
 use Rattle.rules.specs.Bytes.{part, PartOf}
 use Rattle.stream_rules.specs.Heads.{shortest_frame, head, at_close}
 use Rattle.stream_rules.specs.Rule.{Found, rule, look, by_look}
-use Rattle.stream_rules.specs.declared.Listed.{Listed}
-use Rattle.stream_rules.specs.declared.Listed.TheVariants.{Count, Refused}
 use Rattle.stream_rules.specs.declared.Order.{Order}
 use Rattle.stream_rules.specs.declared.Order.TheVariants.{Earlier, Later, Equal, CannotSay}
 
@@ -18,9 +19,6 @@ abbrev pub starts_of : List Found → List ℕ
 starts_of fs = map (λ (f : Found). f.start) fs
 
 -- A capture has at most 65,536 bytes.
-abbrev pub too_long : ℕ
-too_long = 7
-
 abbrev pub longest_capture : ℕ
 longest_capture = 65536
 
@@ -33,16 +31,16 @@ fits capture = leb (length capture) longest_capture
 
 -- The lister: refusal 1, then 7, then 4 where the list is shorter than the answer needs; else how many starts. They stand
 -- at the front of the list, its rest is unchanged, and on a refusal all of it is.
-abbrev pub listed : ℕ → List ℕ → List ℕ → Listed
+abbrev pub listed : ℕ → List ℕ → List ℕ → Result ℕ Refusal
 listed family capture out =
-    cond (not (is_family family)) (Refused no_family)
-    (cond (not (fits capture)) (Refused too_long)
-    (cond (not (leb (length (frames family capture)) (length out))) (Refused no_room)
-    (Count (length (frames family capture)))))
+    cond (not (is_family family)) (Err NoFamily)
+    (cond (not (fits capture)) (Err TooLong)
+    (cond (not (leb (length (frames family capture)) (length out))) (Err NoRoom)
+    (Ok (length (frames family capture)))))
 
-abbrev pub said_to_list : Listed → Says
-said_to_list (Count n) = yes starts_listed (pos n ∷ [])
-said_to_list (Refused n) = no n
+abbrev pub said_to_list : Result ℕ Refusal → Says
+said_to_list (Ok n) = yes starts_listed (pos n ∷ [])
+said_to_list (Err e) = no (number_for e)
 
 abbrev pub list_left : ℕ → List ℕ → List ℕ → List ℕ
 list_left family capture out =
@@ -50,7 +48,7 @@ list_left family capture out =
     (starts_of (frames family capture) ++ drop (length (frames family capture)) out)
     out
 
-pub record Lists (family : ℕ) (capture out : List ℕ) (answer : Listed) (after : List ℕ) : Type 0 where
+pub record Lists (family : ℕ) (capture out : List ℕ) (answer : Result ℕ Refusal) (after : List ℕ) : Type 0 where
   pub answers : answer ≡ listed family capture out
   pub says : said_to_list answer
       ≡ cond (not (is_family family)) (no no_family)

@@ -2,7 +2,7 @@
 // them stand in specs/.
 #![tactic(auto)]
 
-use rules::{Frame, SHORTEST_FRAME};
+use rules::{Frame, Refusal, SHORTEST_FRAME};
 
 // The held places of a reader: one fewer than the longest frame of any family has bytes.
 pub const PLACES: usize = 133;
@@ -28,7 +28,7 @@ pub const LONGEST_LIST: usize = LONGEST_CAPTURE / SHORTEST_FRAME;
 #[derive(Clone, Copy)]
 pub struct Reader {
     pub family: u8,
-    // 0 until it is closed; any other value is closed
+    // 0 until it is closed; any other value is closed (C keeps it, so it is a number)
     pub closed: u8,
     // how many of the held places are used, from the first on
     pub count: u8,
@@ -50,14 +50,16 @@ pub struct Ready {
     pub frame: Frame,
 }
 
-// The answer of a call: a frame; or more bytes wanted, or done, with the bytes taken; or a refusal.
+// What a call that is not refused comes to: a frame; or more bytes wanted, or done, with the bytes taken.
 #[derive(Clone, Copy)]
-pub enum Answer {
+pub enum Progress {
     Ready(Ready),
     More(usize),
     Done(usize),
-    Refused(u8),
 }
+
+// The answer of a call.
+pub type Answer = Result<Progress, Refusal>;
 
 // A reader after a call, and what the call answered.
 #[derive(Clone, Copy)]
@@ -67,11 +69,7 @@ pub struct Fed {
 }
 
 // The answer of making a reader and of closing one.
-#[derive(Clone, Copy)]
-pub enum Outcome {
-    Accepted,
-    Refused(u8),
-}
+pub type Outcome = Result<(), Refusal>;
 
 // A reader that was made or closed, and what was answered.
 #[derive(Clone, Copy)]
@@ -81,11 +79,7 @@ pub struct Turned {
 }
 
 // The answer of the lister: how many starts it filled in.
-#[derive(Clone, Copy)]
-pub enum Listed {
-    Count(usize),
-    Refused(u8),
-}
+pub type Listed = Result<usize, Refusal>;
 
 // How stamp a stands to stamp b.
 #[derive(Clone, Copy)]

@@ -1,6 +1,6 @@
 -- What the reader of a number needs of a row of digits: one digit more, and when the row is a number.
 -- Assumes nothing.
-use Rattle.std.proofs.Common.{◌≡◌, ℕ, ◌+◌, ◌-◌, ◌*◌, ◌^◌, ◌<◌, ◌≤◌, Bool, true, false, ◌&&◌, leb, List, length, get_or, drop, sym, ap, ◌∙◌, lt_of_lt_of_le, pow-suc, add-one, arith, lit<, le-leb}
+use Rattle.std.proofs.Common.{◌≡◌, ℕ, ◌+◌, ◌-◌, ◌*◌, ◌^◌, ◌<◌, ◌≤◌, Bool, true, false, cond, ◌&&◌, leb, List, Some, None, length, get_or, drop, sym, ap, ◌∙◌, lt_of_lt_of_le, pow-suc, add-one, arith, lit<, le-leb}
 use mathlib.Core.Path.{subst⁻¹}
 use mathlib.Core.Bool.{and-false}
 use native.Mathlib.Nat.{pow-le-pow_right}
@@ -8,52 +8,36 @@ use lib.Arith.{digits_lt}
 use borrow.Author.Tests.{lt-leb}
 use Rattle.rules.specs.Bytes.{between, every}
 use Rattle.rules.specs.Numbers.{is_digit, decimal, decimal_from}
-use Rattle.texts.specs.Numbers.{number, digits_in}
-use Rattle.texts.specs.declared.numbers.Number.{Number}
+use Rattle.texts.specs.Numbers.{digits_in}
 use Rattle.texts.proofs.Steps.{at, done}
 
-abbrev pub none : Number
-none = record { good = false; count = 0 }
-
-abbrev pub some : ℕ → Number
-some n = record { good = true; count = n }
-
 -- a text that fails its test is no number, and one that passes it is one
-pub refused : (test : Bool) (n : ℕ) → test ≡ false → none ≡ number test n
-refused test n e = ap (λ (b : Bool). number b n) (sym e)
+pub refused : (test : Bool) (n : ℕ) → test ≡ false → None ≡ cond test (Some n) None
+refused test n e = ap (λ (b : Bool). cond b (Some n) None) (sym e)
 
-pub accepted : (test : Bool) (n : ℕ) → test ≡ true → some n ≡ number test n
-accepted test n e = ap (λ (b : Bool). number b n) (sym e)
+pub accepted : (test : Bool) (n : ℕ) → test ≡ true → Some n ≡ cond test (Some n) None
+accepted test n e = ap (λ (b : Bool). cond b (Some n) None) (sym e)
 
 module _ (t : List ℕ) where
-  pub too_short : length t ≡ 0 → none ≡ digits_in t
+  pub too_short : length t ≡ 0 → None ≡ digits_in t
   unfolding digits_in
   too_short h = refused (between 1 9 (length t) && every is_digit t) (decimal t) (rw (lt-leb 1 (length t) (omega arith)))
 
-  pub too_long : 9 < length t → none ≡ digits_in t
+  pub too_long : 9 < length t → None ≡ digits_in t
   unfolding digits_in
   too_long h =
       refused (between 1 9 (length t) && every is_digit t) (decimal t)
       (rw (lt-leb (length t) 9 h, and-false (leb 1 (length t))))
 
-  pub broken : every is_digit t ≡ false → none ≡ digits_in t
+  pub broken : every is_digit t ≡ false → None ≡ digits_in t
   unfolding digits_in
   broken e = refused (between 1 9 (length t) && every is_digit t) (decimal t) (rw e (and-false (between 1 9 (length t))))
 
-  pub a_row : 1 ≤ length t → length t ≤ 9 → every is_digit t ≡ true → some (decimal t) ≡ digits_in t
+  pub a_row : 1 ≤ length t → length t ≤ 9 → every is_digit t ≡ true → Some (decimal t) ≡ digits_in t
   unfolding digits_in
   a_row h k e =
       accepted (between 1 9 (length t) && every is_digit t) (decimal t)
       (rw (le-leb 1 (length t) h, le-leb (length t) 9 k, e))
-
-pub digit : (b : ℕ) → 48 ≤ b → b ≤ 57 → is_digit b ≡ true
-digit b h k = rw (le-leb 48 b h, le-leb b 57 k)
-
-pub below : (b : ℕ) → b < 48 → is_digit b ≡ false
-below b h = rw (lt-leb 48 b h)
-
-pub above : (b : ℕ) → 57 < b → is_digit b ≡ false
-above b h = rw (lt-leb b 57 h) (and-false (leb 48 b))
 
 module _ (t : List ℕ) (i : ℕ) (h : i < length t) where
   pub one_more : is_digit (get_or t i 0) ≡ true → every is_digit (drop i t) ≡ every is_digit (drop (i + 1) t)

@@ -4,3 +4,4 @@
 pub mod FieldEnds
 pub mod Steps
 pub mod DigitRows
+pub mod Equal

@@ -6,12 +6,6 @@ ghost use Rattle.texts.specs.Commas.{to_comma};
 pub fn to_comma(s: &[u8], a: usize) -> usize
     ensures { result ≡ a + to_comma (drop a s.now) }
 {
-    let mut e = a;
-    while e < s.len() {
-        if s[e] == b',' {
-            return e;
-        }
-        e += 1;
-    }
-    e
+    let rest = &s[a.min(s.len())..];
+    a + rest.iter().position(|b| *b == b',').unwrap_or(rest.len())
 }

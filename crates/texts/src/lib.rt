@@ -7,5 +7,5 @@ mod numbers;
 mod parts;
 
 pub use commas::to_comma;
-pub use numbers::{Number, digits};
+pub use numbers::digits;
 pub use parts::{further, one_of, same_bytes, sum, text, text_byte, wide, within};

@@ -23,38 +23,21 @@ pub fn text(s: &[u8], a: usize, n: usize) -> &[u8]
 pub fn one_of(letters: &[u8], b: u8) -> bool
     ensures { result ≡ one_of letters.now b }
 {
-    let mut i = 0;
-    while i < letters.len() {
-        if b == letters[i] {
-            return true;
-        }
-        i += 1;
-    }
-    false
+    letters.iter().any(|letter| *letter == b)
 }
 
 // The further of two places.
 pub fn further(a: usize, b: usize) -> usize
     ensures { result ≡ max a b }
 {
-    if a < b { b } else { a }
+    a.max(b)
 }
 
 // Whether two texts are the same bytes.
 pub fn same_bytes(s: &[u8], t: &[u8]) -> bool
     ensures { result ≡ same s.now t.now }
 {
-    if s.len() != t.len() {
-        return false;
-    }
-    let mut i = 0;
-    while i < s.len() {
-        if s[i] != t[i] {
-            return false;
-        }
-        i += 1;
-    }
-    true
+    s == t
 }
 
 // Whether b is from 20 to 7E, and neither of two bytes.
@@ -68,17 +51,12 @@ pub fn text_byte(a: u8, z: u8, b: u8) -> bool
 pub fn within(least: &[u8], most: &[u8], s: &[u8]) -> bool
     ensures { result ≡ in_bounds least.now most.now s.now }
 {
-    if least.len() < s.len() {
-        return false;
-    }
-    if most.len() < s.len() {
+    if least.len() < s.len() || most.len() < s.len() {
         return false;
     }
     let mut good = true;
-    let mut i = 0;
-    while i < s.len() {
-        good = good & (least[i] <= s[i]) & (s[i] <= most[i]);
-        i += 1;
+    for (i, b) in s.iter().enumerate() {
+        good = good & (least[i] <= *b) & (*b <= most[i]);
     }
     good
 }
@@ -87,7 +65,7 @@ pub fn within(least: &[u8], most: &[u8], s: &[u8]) -> bool
 pub fn wide(b: u8) -> u32
     ensures { result ≡ b }
 {
-    b as u32
+    u32::from(b)
 }
 
 // The sum of the bytes, modulo 2^32.
@@ -95,10 +73,8 @@ pub fn sum(s: &[u8]) -> u32
     ensures { result ≡ total s.now % 2 ^ 32 }
 {
     let mut sum: u32 = 0;
-    let mut i = 0;
-    while i < s.len() {
-        sum = std::num::wrapping_add_u32(sum, wide(s[i]));
-        i += 1;
+    for b in s {
+        sum = sum.wrapping_add(u32::from(*b));
     }
     sum
 }

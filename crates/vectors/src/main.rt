@@ -10,124 +10,91 @@
 mod panel;
 mod walks;
 
-ghost use Rattle.std.specs.Prelude.{◌≤◌, length};
-
+use lines::Line;
 use listings::print_listing;
 use replays::print_replay;
-use rules::Reading;
 use std::io;
-use std::num::wrapping_sub_u8;
 
 // Room for the bytes of a line.
 const ROOM: usize = 1024;
 
 fn main(rt: HostRuntime) -> io::Result<()> {
-    let mut text = [0u8; 65536];
-    let n = lines::read_full(&rt, &mut text)?;
-    print_all(&rt, &text[..n])
+    let mut buffer = [0u8; 65536];
+    print_all(&rt, lines::read_full(&rt, &mut buffer)?)
 }
 
 fn print_all(rt: &impl Print, text: &[u8]) -> io::Result<()> {
-    let mut at = 0;
-    while at < text.len() {
-        let end = line_end(text, at);
-        print_answer(rt, &text[at..end])?;
-        at = end + 1;
+    for line in text.split_inclusive(|b| *b == b'\n') {
+        print_answer(rt, line.strip_suffix(b"\n").unwrap_or(line))?;
     }
     Ok(())
 }
 
-// Where the line ends that has place a in it.
-fn line_end(text: &[u8], a: usize) -> usize
-    requires { a ≤ length text.now }
-    ensures { (a ≤ result) × (result ≤ length text.now) }
-{
-    let mut end = a;
-    while end < text.len() {
-        if text[end] == b'\n' {
-            return end;
+fn print_answer(rt: &impl Print, line: &[u8]) -> io::Result<()> {
+    match line {
+        [] | [_] | [b'l' | b'r' | b'w' | b'p', _] => print_bad(rt),
+        [b'#', ..] => lines::print_text(rt, line),
+        [letter @ (b'l' | b'r' | b'w' | b'p'), digit, _, digits @ ..] => {
+            print_run(rt, *letter, family_of(*digit), digits)
         }
-        end += 1;
+        [digit, _, b'$' | b'^', ..] => print_frame(rt, family_of(*digit), &line[2..]),
+        [digit, _, digits @ ..] => print_hex(rt, family_of(*digit), digits),
     }
-    end
 }
 
-fn print_answer(rt: &impl Print, line: &[u8]) -> io::Result<()> {
-    if line.len() < 2 {
-        return lines::print_text(rt, b"bad line");
-    }
-    if line[0] == b'#' {
-        return lines::print_text(rt, line);
-    }
-    if texts::one_of(b"lrwp", line[0]) {
-        return print_run(rt, line);
-    }
-    let family = wrapping_sub_u8(line[0], b'0');
-    let frame = &line[2..];
-    if 0 < frame.len() {
-        if texts::one_of(b"$^", frame[0]) {
-            return print_frame(rt, family, frame);
-        }
-    }
-    print_hex(rt, family, frame)
+fn print_bad(rt: &impl Print) -> io::Result<()> {
+    lines::print_text(rt, b"bad line")
+}
+
+fn family_of(digit: u8) -> u8 {
+    digit.wrapping_sub(b'0')
 }
 
 // What a letter asks for.
-fn print_run(rt: &impl Print, line: &[u8]) -> io::Result<()> {
-    if line.len() < 3 {
-        return lines::print_text(rt, b"bad line");
-    }
-    let family = wrapping_sub_u8(line[1], b'0');
-    let digits = &line[3..];
-    let mut bytes = [0u8; ROOM];
-    let n = from_hex(digits, &mut bytes);
-    if n + n != digits.len() {
-        return lines::print_text(rt, b"bad line");
-    }
-    match line[0] {
-        b'l' => print_listing(rt, family, &bytes[0..n]),
-        b'r' => print_replay(rt, family, &bytes[0..n]),
-        b'w' => walks::print_walks(rt, family, &bytes[0..n]),
-        _ => panel::print_stream(rt, family, &bytes[0..n]),
+fn print_run(rt: &impl Print, letter: u8, family: u8, digits: &[u8]) -> io::Result<()> {
+    let mut room = [0u8; ROOM];
+    let Some(bytes) = from_hex(digits, &mut room) else {
+        return print_bad(rt);
+    };
+    match letter {
+        b'l' => print_listing(rt, family, bytes),
+        b'r' => print_replay(rt, family, bytes),
+        b'w' => walks::print_walks(rt, family, bytes),
+        _ => panel::print_stream(rt, family, bytes),
     }
 }
 
 fn print_hex(rt: &impl Print, family: u8, digits: &[u8]) -> io::Result<()> {
-    let mut bytes = [0u8; ROOM];
-    let n = from_hex(digits, &mut bytes);
-    if n + n == digits.len() {
-        print_frame(rt, family, &bytes[0..n])
-    } else {
-        lines::print_text(rt, b"bad line")
+    let mut room = [0u8; ROOM];
+    match from_hex(digits, &mut room) {
+        Some(bytes) => print_frame(rt, family, bytes),
+        None => print_bad(rt),
     }
 }
 
-// The bytes that the digits give, as far as they go, and how many.
-fn from_hex(digits: &[u8], bytes: &mut [u8]) -> usize
-    ensures { result ≤ length bytes.new }
-{
-    let mut n = 0;
-    while n < bytes.len() {
-        if digits.len() / 2 <= n {
-            return n;
-        }
-        let pair = checksums::hex_pair(digits[2 * n], digits[2 * n + 1]);
-        if !pair.good {
-            return n;
-        }
-        pens::put_byte(bytes, n, pair.value);
-        n += 1;
+// The bytes that the digits give, two for each; none where one is no digit, a digit is left over, or there are more bytes
+// than the room has.
+fn from_hex<'a>(digits: &[u8], room: &'a mut [u8]) -> Option<&'a [u8]> {
+    let pairs = digits.chunks_exact(2);
+    let count = pairs.len();
+    if !pairs.remainder().is_empty() || room.len() < count {
+        return None;
     }
-    n
+    for (byte, pair) in room.iter_mut().zip(pairs) {
+        let [high, low] = pair else {
+            return None;
+        };
+        *byte = checksums::hex_pair(*high, *low)?;
+    }
+    Some(&room[..count])
 }
 
 fn print_frame(rt: &impl Print, family: u8, bytes: &[u8]) -> io::Result<()> {
-    let mut line = [0u8; 512];
-    match frames::read_frame(family, bytes) {
-        Reading::Good(frame) => {
-            let end = replays::frame(&mut line, 0, frame);
-            lines::print(rt, &mut line, end)
-        }
-        Reading::Refused(n) => lines::print_refused(rt, n),
-    }
+    let frame = match frames::read_frame(family, bytes) {
+        Ok(frame) => frame,
+        Err(e) => return lines::print_refused(rt, u8::from(e)),
+    };
+    let mut line = Line::<512>::new();
+    replays::frame(&mut line, frame);
+    line.print(rt)
 }

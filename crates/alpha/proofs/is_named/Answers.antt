@@ -1,20 +1,16 @@
 -- `alpha::is_named` meets its contract: its tests are those of the definition, two digits being a row of digits.
 -- Assumes nothing.
-use mathlib.Core.Bool.{and-true}
-use native.Mathlib.Omega.{arith}
-use Rattle.alpha.proofs.Payloads.{ends_here, goes_on, number_test}
+use Rattle.std.proofs.Common.{rules}
+use Rattle.alpha.proofs.Payloads.{behind_number, number_test, named}
 use Rattle.alpha.proofs.is_named.Goals as goal
-
-pub returns-then-p-eq5 : goal.returns-then-p-eq5
-returns-then-p-eq5 c =
-    let p = c.args.p.now in
-    let number = c.digits-number in
-    rw
-    (c.same_bytes-letters.ensures, number.ensures, number_test p c.requires, ends_here p c.if-p-eq5.true, and-true)
 
 pub returns : goal.returns
 returns c =
-    let p = c.args.p.now in
-    let number = c.digits-number in
-    rw
-    (c.same_bytes-letters.ensures, number.ensures, number_test p c.requires, goes_on p (omega arith))
+    rw (
+      c.starts_with.ensures.value,
+      c.is_some.ensures,
+      c.digits.ensures,
+      number_test c.args.p.now c.requires,
+      behind_number c.args.p.now c.get.result c.get.ensures.lookup.3 c.is_none_or.ensures (λ b e. search rules),
+      named c.args.p.now,
+    )

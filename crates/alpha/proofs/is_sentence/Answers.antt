@@ -1,29 +1,24 @@
 -- `alpha::is_sentence` meets its contract: a sentence is good where its payload is one at full width, or gives a
 -- record or a number. Assumes nothing.
-use mathlib.Core.Path.{◌≡◌, sym, ap, ◌∙◌}
-use mathlib.Core.Bool.{true}
-use Rattle.rules.specs.Sentences.{is_sentence}
+use Rattle.std.proofs.Common.{sym, ap, ◌∙◌}
 use Rattle.rules.specs.Answers.{is_good}
-use Rattle.alpha.proofs.Frames.{no_sentence, numbered, a_sentence}
+use Rattle.alpha.proofs.Frames.{ok_good, no_sentence, numbered, a_sentence}
 use Rattle.alpha.proofs.is_sentence.Goals as goal
-use Rattle.alpha.proofs.is_sentence.Goals.{Else-not-is_framed}
 
-good : (c : Else-not-is_framed) → is_sentence c.args.s.now ≡ true
-good c = sym c.is_framed.ensures ∙ c.if-not-is_framed.false
-
-pub returns-then-not-is_framed : goal.returns-then-not-is_framed
-returns-then-not-is_framed c = ap is_good (no_sentence _ (sym c.is_framed.ensures ∙ c.if-not-is_framed.true))
-
-pub returns-then-is_full : goal.returns-then-is_full
-returns-then-is_full c = sym (c.is_full.ensures c.if-is_full.true) ∙ ap is_good (a_sentence _ (good (goal.at.returns-then-is_full c).Else-not-is_framed))
+pub returns-in_default : goal.returns-in_default
+returns-in_default c = ap is_good (no_sentence _ c.in_default.ensures)
 
 pub read_payload-requires : goal.read_payload-requires
-read_payload-requires c = numbered _ (good (goal.at.read_payload-requires c).Else-not-is_framed)
+read_payload-requires c = rw c.in-Some.ensures.1 (numbered _ c.in-Some.ensures.0)
 
-pub returns-in-Good : goal.returns-in-Good
-returns-in-Good c =
-    ap is_good (sym c.in-Good.is ∙ c.read_payload.ensures ∙ a_sentence _ (good (goal.at.returns-in-Good c).Else-not-is_framed))
+pub returns-then-is_full : goal.returns-then-is_full
+returns-then-is_full c =
+    c.if-is_full.true
+    ∙ sym (c.is_full.ensures c.if-is_full.true)
+    ∙ ap is_good (rw c.in-Some.ensures.1 (a_sentence _ c.in-Some.ensures.0))
 
-pub returns-in-Refused : goal.returns-in-Refused
-returns-in-Refused c =
-    ap is_good (sym c.in-Refused.is ∙ c.read_payload.ensures ∙ a_sentence _ (good (goal.at.returns-in-Refused c).Else-not-is_framed))
+pub returns-else-is_full : goal.returns-else-is_full
+returns-else-is_full c =
+    c.is_ok.ensures.value
+    ∙ ok_good c.read_payload.result
+    ∙ ap is_good (c.read_payload.ensures ∙ rw c.in-Some.ensures.1 (a_sentence _ c.in-Some.ensures.0))

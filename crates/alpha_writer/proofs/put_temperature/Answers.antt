@@ -18,5 +18,5 @@ returns c =
     let size = nat_abs c.args.z in
     (row refl c.put_bytes.ensures then row (length_number _ _ _) c.put_number.ensures then row refl c.put_byte.ensures then row (length_number _ _ _) c.put_number-2.ensures).laying
     (omega (arith, c.requires.1))
-    ∙ rw (c.sign_of.ensures, c.tenths-n.ensures, temperature_read c.args.z c.requires.0)
+    ∙ rw (c.sign_of.ensures, c.unsigned_abs-tenths.ensures.value, temperature_read c.args.z c.requires.0)
     (rw (number_zeros 3 (size / 10) (omega (arith, c.requires.0)), number_zeros 1 (size % 10) (omega arith)))

@@ -4,4 +4,4 @@ use Rattle.amp.proofs.Families.{read_byte}
 use Rattle.amp.proofs.amp_read.Goals as goal
 
 pub returns : goal.returns
-returns c = rw (← read_byte c.args.family c.family_byte.result c.family_byte.ensures c.args.bytes.now) c.read_row.ensures
+returns c = rw (c.number_of.ensures, ← read_byte c.args.family c.family_byte.result c.family_byte.ensures c.args.bytes.now) c.read_row.ensures

@@ -11,7 +11,7 @@ use Rattle.held_bytes.proofs.Buffers.{zeros, fills}
 use Rattle.held_bytes.proofs.keep_part.Goals as goal
 
 pub returns : goal.returns
-returns c long =
+returns c =
     let a = c.args in
     let bytes = part a.a a.n a.places.now in
     c.put_bytes.ensures

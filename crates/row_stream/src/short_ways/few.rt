@@ -1,63 +1,41 @@
 // A call on few bytes, for which the held places have room behind those held: they are laid there, and what they are
 // with the held ones is searched where it stands.
 ghost use Rattle.std.specs.Prelude.{◌≡◌, true, length};
-ghost use Rattle.row_stream.specs.FedRows.{FeedsLent};
-ghost use Rattle.row_stream.specs.Short.{HasRoom, IsFew};
+ghost use Rattle.rows.specs.Rows.{outcome_number};
+ghost use Rattle.row_stream.specs.FedRows.{FeedsRow};
+ghost use Rattle.row_stream.specs.Short.{IsPlain, IsFew};
 
-use crate::Counts;
 use crate::short_ways::row_search::seek_row;
-use held_bytes::{keep_part, lay};
-use starts::{advanced, is_family, longest_frame};
-use stream_rules::PLACES;
+use held_bytes::{keep_part, lay, served};
+use starts::advanced;
+use stream_rules::{Outcome, PLACES, Reader};
 use texts::text;
 
 // True only where a reader of the family may hold so many bytes, and the places have room for the others behind them.
-pub(crate) fn is_few(family: u8, count: u8, others: usize) -> bool
-    ensures { result ≡ true → IsFew family count others }
+pub(crate) fn is_few(reader: &Reader, others: usize) -> bool
+    ensures { result ≡ true → IsFew reader.now others }
 {
-    if !is_family(family) {
-        return false;
-    }
-    let used = count as usize;
-    if longest_frame(family) <= used {
-        return false;
-    }
-    others <= PLACES - used
+    served(reader).is_ok() && others <= PLACES - usize::from(reader.count)
 }
 
 // A call on few bytes, for which the places have room behind the held ones. They are laid there and searched.
-pub(crate) fn feed_few(
-    family: u8,
-    count: u8,
-    at: u32,
-    skipped: u32,
-    held: &mut [u8; PLACES],
-    few: &[u8],
-    numbers: &mut [i64],
-) -> Counts
-    requires { IsFew family count (length few.now) × HasRoom held.old numbers.old }
-    ensures { FeedsLent family 0 count at skipped held few numbers result }
+pub(crate) fn feed_few(reader: &mut Reader, few: &[u8], numbers: &mut [i64]) -> Outcome
+    requires plain { IsPlain reader.old numbers.old }
+    requires few { IsFew reader.old (length few.now) }
+    ensures { FeedsRow reader.old few.now numbers.old (outcome_number result) reader.new numbers.new }
 {
-    let used = count as usize;
-    lay(held, used, few);
+    let used = usize::from(reader.count);
+    lay(&mut reader.held, used, few);
     let all = used + few.len();
-    let stop = seek_row(family, text(held, 0, all), used, at, skipped, numbers);
-    let from = stop.at + stop.length;
+    let stop = seek_row(reader, text(&reader.held, 0, all), numbers);
+    let from = stop.at + stop.length.unwrap_or(0);
     let left = stop.reach - from;
-    keep_part(held, from, left);
-    // a frame has some bytes
-    if stop.length == 0 {
-        return Counts {
-            number: 0,
-            count: left as u8,
-            at: advanced(at, from),
-            skipped: advanced(skipped, from),
-        };
-    }
-    Counts {
-        number: 0,
-        count: left as u8,
-        at: advanced(at, from),
-        skipped: 0,
-    }
+    keep_part(&mut reader.held, from, left);
+    reader.count = left as u8;
+    reader.at = advanced(reader.at, from);
+    reader.skipped = match stop.length {
+        Some(_) => 0,
+        None => advanced(reader.skipped, from),
+    };
+    Ok(())
 }

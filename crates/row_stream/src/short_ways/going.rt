@@ -1,83 +1,66 @@
 // A call that decides nothing: the held bytes have begun a report or a sentence, the bytes offered go on with it, and
 // it is not whole yet. Nothing is searched: the tests on the held and on the offered bytes are enough.
 ghost use Rattle.std.specs.Prelude.{◌≡◌, true};
-ghost use Rattle.row_stream.specs.FedRows.{FeedsLent};
-ghost use Rattle.row_stream.specs.Going.{ReportGoesOn, SentenceGoesOn, GoesOn, GoesOnLent};
-ghost use Rattle.row_stream.specs.Short.{HasRoom};
+ghost use Rattle.rows.specs.Rows.{outcome_number};
+ghost use Rattle.row_stream.specs.FedRows.{FeedsRow};
+ghost use Rattle.row_stream.specs.Going.{ReportGoesOn, SentenceGoesOn, GoesOn};
+ghost use Rattle.row_stream.specs.Short.{IsPlain};
 
-use crate::{Counts, left_so};
 use held_bytes::{keep_part, lay};
-use rows::{MORE_ROW, lay_heading};
+use rows::{Heading, MORE_ROW, lay_heading};
 use rules::{LONGEST_PAYLOAD, REPLIES, REPORT_LENGTH, SENTENCES};
 use spe::begins_report;
 use starts::{are_inner, brackets_of};
-use stream_rules::PLACES;
+use stream_rules::{Outcome, Reader};
 use texts::text;
 
 // True only where a report has begun in the held bytes, and is not whole with so many others.
-fn report_goes_on(count: usize, held: &[u8; PLACES], others: usize) -> bool
-    ensures { result ≡ true → ReportGoesOn count held.now others }
+fn report_goes_on(reader: &Reader, others: usize) -> bool
+    ensures { result ≡ true → ReportGoesOn reader.now others }
 {
-    if REPORT_LENGTH < count {
-        return false;
-    }
-    if REPORT_LENGTH - count <= others {
-        return false;
-    }
-    begins_report(text(held, 0, count))
+    let count = usize::from(reader.count);
+    count <= REPORT_LENGTH
+        && others < REPORT_LENGTH - count
+        && begins_report(text(&reader.held, 0, count))
 }
 
 // True only where a sentence has begun in the held bytes, and all behind its `$` and all others may stand in a payload.
-fn sentence_goes_on(count: usize, held: &[u8; PLACES], others: &[u8]) -> bool
-    ensures { result ≡ true → SentenceGoesOn count held.now others.now }
+fn sentence_goes_on(reader: &Reader, others: &[u8]) -> bool
+    ensures { result ≡ true → SentenceGoesOn reader.now others.now }
 {
-    if count < 1 {
-        return false;
-    }
-    if LONGEST_PAYLOAD < count {
-        return false;
-    }
-    if LONGEST_PAYLOAD - count < others.len() {
-        return false;
-    }
-    if held[0] != b'$' {
-        return false;
-    }
+    let count = usize::from(reader.count);
     let k = brackets_of(SENTENCES);
-    if !are_inner(k, others) {
-        return false;
-    }
-    are_inner(k, text(held, 1, count - 1))
+    1 <= count
+        && count <= LONGEST_PAYLOAD
+        && others.len() <= LONGEST_PAYLOAD - count
+        && reader.held[0] == b'$'
+        && are_inner(k, others)
+        && are_inner(k, text(&reader.held, 1, count - 1))
 }
 
 // True only of such a call. Commands are too short for it.
-pub(crate) fn goes_on(family: u8, count: u8, held: &[u8; PLACES], others: &[u8]) -> bool
-    ensures { result ≡ true → GoesOnLent family count held others }
+pub(crate) fn goes_on(reader: &Reader, others: &[u8]) -> bool
+    ensures { result ≡ true → GoesOn reader.now others.now }
 {
-    match family {
-        REPLIES => report_goes_on(count as usize, held, others.len()),
-        SENTENCES => sentence_goes_on(count as usize, held, others),
+    match reader.family {
+        REPLIES => report_goes_on(reader, others.len()),
+        SENTENCES => sentence_goes_on(reader, others),
         _ => false,
     }
 }
 
 // Such a call: all bytes are taken and held, and more is wanted.
-pub(crate) fn feed_on(
-    family: u8,
-    count: u8,
-    at: u32,
-    skipped: u32,
-    held: &mut [u8; PLACES],
-    others: &[u8],
-    numbers: &mut [i64],
-) -> Counts
-    requires { GoesOn family count held.old others.now × HasRoom held.old numbers.old }
-    ensures { FeedsLent family 0 count at skipped held others numbers result }
+pub(crate) fn feed_on(reader: &mut Reader, others: &[u8], numbers: &mut [i64]) -> Outcome
+    requires plain { IsPlain reader.old numbers.old }
+    requires goes_on { GoesOn reader.old others.now }
+    ensures { FeedsRow reader.old others.now numbers.old (outcome_number result) reader.new numbers.new }
 {
-    let used = count as usize;
+    let used = usize::from(reader.count);
     let all = used + others.len();
-    lay(held, used, others);
-    keep_part(held, 0, all);
-    lay_heading(MORE_ROW, 0, others.len(), 0, 0, 0, numbers);
-    left_so(0, all as u8, at, skipped)
+    lay(&mut reader.held, used, others);
+    keep_part(&mut reader.held, 0, all);
+    reader.count = all as u8;
+    // of what is read the proof knows that it fits its type
+    let _counts = (reader.at, reader.skipped);
+    lay_heading(Heading::without_frame(MORE_ROW, others.len()), numbers)
 }

@@ -101,5 +101,5 @@ loop-at-preserved c =
     passed _ (bracketed _ c.requires) _ _ _ _ _ c.loop-at.invariant (omega arith)
     (broken c.args.family (bracketed _ c.requires) c.args.s.now c.loop-at.at _ c.brackets_of-k.ensures (omega arith) c.if-s-at.false _ c.in-Bad.ensures)
 
-pub returns : goal.returns
-returns c = stops_at_end _ _ _ _ _ _ c.loop-at.invariant (omega arith)
+pub returns-after-loop-at : goal.returns-after-loop-at
+returns-after-loop-at c = stops_at_end _ _ _ _ _ _ c.loop-at.invariant (omega arith)

@@ -7,7 +7,7 @@ use native.Mathlib.Omega.{arith}
 use lib.ListN.{length, take, drop}
 use Rattle.rules.specs.Answers.{read_one}
 use Rattle.rules.specs.declared.Frame.{Frame}
-use Rattle.rules.specs.declared.Reading.{Reading}
+use Rattle.rules.specs.Answers.{Read}
 use Rattle.stream_rules.specs.Heads.{Head, wait, good, head_of, head}
 use Rattle.stream_rules.specs.Rule.{Look, by_look}
 use Rattle.stream_laws.proofs.Families.{facts}
@@ -16,27 +16,27 @@ use Rattle.stream_laws.proofs.Walks.{Passed, nothing_passed, passes, first_good,
 use Rattle.search.specs.Sought.{first_from, AtStop, Stops}
 use Rattle.search.proofs.Stopping.{part_there, whole_there}
 use Rattle.search.specs.declared.First.{First}
-use Rattle.search.specs.declared.First.TheVariants.{At, Nothing}
+use Rattle.std.specs.Prelude.{Option, Some, None}
 use Rattle.search.specs.declared.Stop.{Stop}
 use Rattle.search.proofs.first_good.Goals as goal
-use Rattle.search.proofs.first_good.Goals.{then-length-ne0+in_default, else-length-ne0}
+use Rattle.search.proofs.first_good.Goals.{in_default, in-Some+in_default-read_frame}
 
 -- what a look at the bytes says, as an answer
-abbrev answer : ℕ → Look → First
-answer from l = by_look l (λ k n f behind. At (from + k) n f) (λ k rest. Nothing)
+abbrev answer : ℕ → Look → Option First
+answer from l = by_look l (λ k n f behind. Some (record { start = from + k; length = n; frame = f })) (λ k rest. None)
 
 -- an undecided start is not good
 wait_not_good : {h : Head} → h ≡ wait → NotGood h
 wait_not_good e n f g = let z : ◌≡◌ {A = ℕ} 0 1 = cc in omega arith
 
 module _ (family : ℕ) (s : List ℕ) (from at : ℕ) (passed : Passed (head family) s from at) where
-  ready : (n : ℕ) (f : Frame) → head family (drop at s) ≡ good n f → At at n f ≡ first_from family s from
+  ready : (n : ℕ) (f : Frame) → head family (drop at s) ≡ good n f → Some (record { start = at; length = n; frame = f }) ≡ first_from family s from
   unfolding first_from
   ready n f here =
-      ap (λ (k : ℕ). At k n f) (omega (arith, passed.on))
+      ap (λ (k : ℕ). Some (record { start = k; length = n; frame = f })) (omega (arith, passed.on))
       ∙ ap (answer from) (sym (first_good (head family) s from at passed _ (facts family) n f here))
 
-  ends : length s ≤ at → Nothing ≡ first_from family s from
+  ends : length s ≤ at → None ≡ first_from family s from
   unfolding first_from
   ends e = ap (answer from) (sym (none_left (head family) s from at passed (λ j on within. absurd (omega arith))))
 
@@ -62,25 +62,25 @@ first_stop family s from far q next =
 -- The stop that the walk has come to: where the reader of one frame is to decide,
 module _ (family : ℕ) (s : List ℕ) (p : Stop) (found : AtStop family s p) where
   -- the frame's bytes are there,
-  there : (p.length ≡ 0 → ⊥) → (0 < p.length) × (p.length ≤ length s - p.at)
-  there some = whole_there family s p.at p.length (found.whole some)
+  there : (n : ℕ) → p.length ≡ Some n → (0 < n) × (n ≤ length s - p.at)
+  there n some = whole_there family s p.at n (found.whole n some)
 
   -- and it has read them.
-  answered : (p.length ≡ 0 → ⊥) → (r : Reading) → r ≡ read_one family (take (p.at + p.length - p.at) (drop p.at s)) → head family (drop p.at s) ≡ head_of p.length r
-  answered some r is = (found.whole some).0 ∙ ap (head_of p.length) (sym (is ∙ ap (read_one family) (part_there family s p.at p.length)))
+  answered : (n : ℕ) → p.length ≡ Some n → (r : Read) → r ≡ read_one family (take (p.at + n - p.at) (drop p.at s)) → head family (drop p.at s) ≡ head_of n r
+  answered n some r is = (found.whole n some).0 ∙ ap (head_of n) (sym (is ∙ ap (read_one family) (part_there family s p.at n)))
 
 pub loop-stop-init : goal.loop-stop-init
 loop-stop-init c = (first_stop _ _ _ _ _ c.next_stop-stop.ensures, c.next_stop-stop.ensures.found)
 
 pub overflow_add-at : goal.overflow_add-at
-overflow_add-at c = omega (arith, there _ _ _ c.loop-stop.invariant.1 c.if-length-ne0.true)
+overflow_add-at c = omega (arith, there _ _ _ c.loop-stop.invariant.1 _ c.in-Some.is)
 
 pub slice_bounds-read_frame-end : goal.slice_bounds-read_frame-end
-slice_bounds-read_frame-end c = omega (arith, there _ _ _ c.loop-stop.invariant.1 c.if-length-ne0.true)
+slice_bounds-read_frame-end c = omega (arith, there _ _ _ c.loop-stop.invariant.1 _ c.in-Some.is)
 
-pub returns-in-Good : goal.returns-in-Good
-returns-in-Good c =
-    ready _ _ _ _ c.loop-stop.invariant.0 _ _ (answered _ _ _ c.loop-stop.invariant.1 c.if-length-ne0.true _ c.in-Good.ensures.answers)
+pub returns-in-Ok : goal.returns-in-Ok
+returns-in-Ok c =
+    ready _ _ _ _ c.loop-stop.invariant.0 _ _ (answered _ _ _ c.loop-stop.invariant.1 _ c.in-Some.is _ c.in-Ok.ensures.answers)
 
 pub loop-stop-smaller : goal.loop-stop-smaller
 loop-stop-smaller c = omega (arith, c.next_stop-stop-in-loop-stop.ensures.walks.ahead)
@@ -90,9 +90,9 @@ loop-stop-preserved c =
     let next = c.next_stop-stop-in-loop-stop.ensures in
     let found = c.loop-stop.invariant.1 in (
       onward _ _ _ _ c.loop-stop.invariant.0
-          (elim c.if-length-ne0.branch [
-            | then-length-ne0+in_default w ↦ bad_not_good (answered _ _ _ found w.if-length-ne0.true _ w.in_default.ensures.answers)
-            | else-length-ne0 w ↦ wait_not_good (found.waits w.if-length-ne0.false c.loop-stop-test.true)
+          (elim c.match-stop.branch [
+            | in-Some+in_default-read_frame w ↦ bad_not_good (answered _ _ _ found _ w.in-Some.is _ w.in_default-read_frame.ensures.answers)
+            | in_default w ↦ wait_not_good (found.waits w.in_default.is c.loop-stop-test.true)
           ])
           _ _ next,
       next.found,

@@ -155,5 +155,5 @@ loop-at-preserved c =
     (behind c.args.family c.requires _ c.mark_of-mark.ensures c.args.s.now c.loop-at.at (c.mark_for_count.ensures.not_there c.if-mark_for_count.false)))
     past.0 past.1 (λ j p q e. past.2 j p q (e ∙ sym c.mark_of-mark.ensures))
 
-pub returns : goal.returns
-returns c = stops_at_end _ _ _ _ _ _ c.loop-at.invariant (omega arith)
+pub returns-after-loop-at : goal.returns-after-loop-at
+returns-after-loop-at c = stops_at_end _ _ _ _ _ _ c.loop-at.invariant (omega arith)

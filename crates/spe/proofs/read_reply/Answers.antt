@@ -1,31 +1,37 @@
 -- `spe::read_reply` meets its contract: an acknowledgement, or else a report or nothing.
 -- Assumes nothing.
 use Prim.Native.Nat.{ℕ}
-use mathlib.Core.Path.{◌≡◌, sym, ap, ◌∙◌}
-use mathlib.Core.Bool.{Bool, true, false, cond}
+use Rattle.std.specs.Prelude.{Ok, Err, Some, None}
+use mathlib.Core.Path.{◌≡◌}
 use mathlib.Core.List.{List}
-use native.Mathlib.Omega.{arith}
-use lib.ListN.{get_or}
-use Rattle.rules.specs.Codes.{is_ack}
 use Rattle.rules.specs.Answers.{read_one, read_family1}
-use Rattle.rules.specs.declared.Frame.TheVariants.{Ack}
-use Rattle.rules.specs.declared.Reading.TheVariants.{Good}
+use Rattle.rules.specs.declared.Frame.TheVariants.{Ack, Status}
+use Rattle.rules.specs.declared.Status as StatusType
+use Rattle.rules.specs.declared.Refusal.TheVariants.{NotGood}
 use Rattle.frame_laws.proofs.Saying.{reads}
+use Rattle.spe.specs.Packets.{ack_in}
 use Rattle.spe.specs.Report.{report_in}
-use Rattle.spe.proofs.PacketFrames.{not_ack, six_bytes}
+use Rattle.spe.proofs.Found.{found, not_found}
 use Rattle.spe.proofs.read_reply.Goals as goal
 
-answer : (s : List ℕ) (b : Bool) → is_ack s ≡ b → cond b (Good (Ack (get_or s 4 0))) (report_in s) ≡ read_one 1 s
-unfolding read_one read_family1 report_in
-answer s b e = ap (λ (x : Bool). cond x (Good (Ack (get_or s 4 0))) (report_in s)) (sym e)
+module _ (s : List ℕ) where
+  an_ack : (code : ℕ) → Some code ≡ ack_in s → Ok (Ack code) ≡ read_one 1 s
+  unfolding read_one read_family1 ack_in
+  an_ack code e = let f = found _ _ _ e in rw (f.0, f.1)
 
-pub bounds-s-4 : goal.bounds-s-4
-bounds-s-4 c =
-    let s = c.args.s.now in
-    omega (arith, six_bytes (is_ack s) s (not_ack s) (sym c.is_ack.ensures ∙ c.if-is_ack.true))
+  a_report : (status : StatusType.Status) → None ≡ ack_in s → Some status ≡ report_in s → Ok (Status status) ≡ read_one 1 s
+  unfolding read_one read_family1 ack_in report_in
+  a_report status e d = let f = found _ _ _ d in rw (not_found _ _ e, f.0, f.1)
 
-pub returns-then-is_ack : goal.returns-then-is_ack
-returns-then-is_ack c = reads (answer _ true (sym c.is_ack.ensures ∙ c.if-is_ack.true))
+  no_reply : None ≡ ack_in s → None ≡ report_in s → Err NotGood ≡ read_one 1 s
+  unfolding read_one read_family1 ack_in report_in
+  no_reply e d = rw (not_found _ _ e, not_found _ _ d)
 
-pub returns : goal.returns
-returns c = reads (c.read_report.ensures ∙ answer _ false (sym c.is_ack.ensures ∙ c.if-is_ack.false))
+pub returns-in-Some : goal.returns-in-Some
+returns-in-Some c = reads (an_ack _ _ c.in-Some.ensures)
+
+pub returns-in-Some-report_in : goal.returns-in-Some-report_in
+returns-in-Some-report_in c = reads (a_report _ _ c.in-None.ensures c.in-Some-report_in.ensures)
+
+pub returns-in-None-report_in : goal.returns-in-None-report_in
+returns-in-None-report_in c = reads (no_reply _ c.in-None.ensures c.in-None-report_in.ensures)

@@ -9,5 +9,5 @@ use Rattle.alpha.proofs.full.is_full02.Goals as goal
 pub returns : goal.returns
 unfolding row_of commas
 returns c e =
-    full02 c.args.p.now c.within.result (c.wide.result * 100 + c.wide-2.result * 10 + c.wide-3.result)
-    c.requires c.within.ensures (omega (arith, c.wide.ensures, c.wide-2.ensures, c.wide-3.ensures)) e
+    full02 c.args.p.now c.within.result (c.from.result * 100 + c.from-2.result * 10 + c.from-3.result)
+    c.requires c.within.ensures (omega (arith, c.from.ensures, c.from-2.ensures, c.from-3.ensures)) e

@@ -3,7 +3,6 @@ use Prim.Native.Nat.{ℕ, ◌+◌, ◌≤◌, ◌<◌}
 use mathlib.Core.Path.{◌≡◌, sym, ◌∙◌}
 use mathlib.Core.Bool.{Bool, ◌&&◌, and_assoc, and-true}
 use mathlib.Core.List.{List}
-use native.Mathlib.Omega.{arith}
 use lib.ListN.{length, drop, get_or}
 use Rattle.rules.specs.Bytes.{every}
 use Rattle.texts.proofs.Steps.{at, done}
@@ -21,9 +20,8 @@ ended : (p : List ℕ) (good : Bool) (i : ℕ) → length p ≤ i → good && ev
 unfolding every
 ended p good i h = rw (done p i h) (and-true good)
 
-pub loop-i-preserved : goal.loop-i-preserved
-loop-i-preserved c =
-    (omega arith, next c.args.p.now c.loop-i.good c.loop-i.i (omega arith) ∙ c.loop-i.invariant.1)
+pub loop-b-preserved : goal.loop-b-preserved
+loop-b-preserved c = next c.args.p.now c.loop-b.good c.loop-b.b-index c.loop-b-test.true ∙ c.loop-b.invariant
 
 pub returns : goal.returns
-returns c = sym (ended c.args.p.now _ c.loop-i.i (omega arith)) ∙ c.loop-i.invariant.1
+returns c = sym (ended c.args.p.now _ c.loop-b.b-index c.loop-b-test.false) ∙ c.loop-b.invariant

@@ -1,19 +1,15 @@
--- `alpha::numbered::read05` meets its contract: a row of seven fields of two hexadecimal digits with nothing behind it is
--- what the rules ask of the texts; a shift by 4 divides by 16, and a mask of 15 leaves the remainder. Assumes nothing.
-use mathlib.Core.Path.{ap}
-use borrow.Author.Tests.{not-true, not-false}
+-- What is left to show of `alpha::numbered::read05`: a row with nothing behind it is what the rules ask of the texts; a
+-- shift by 4 divides by 16, and a mask of 15 leaves the remainder. Assumes nothing.
+use Rattle.std.proofs.Common.{ap, rules}
 use Rattle.rules.specs.declared.Frame.TheVariants.{Apa05}
 use Rattle.alpha.proofs.Sentences.{refused, accepted, no_row05, more05, is_row05, record05}
 use Rattle.alpha.proofs.numbered.read05.Goals as goal
 
-pub returns-then-not-row : goal.returns-then-not-row
-returns-then-not-row c = refused _ (no_row05 c.hexes-row.ensures (not-true _ c.if-not-row.true))
+pub returns-in_default : goal.returns-in_default
+returns-in_default c = refused _ (no_row05 _ (rw c.in_default.is at c.row.ensures))
 
-pub returns-then-row-r : goal.returns-then-row-r
-returns-then-row-r c =
-    refused _ (more05 c.hexes-row.ensures (not-false _ c.if-not-row.false) c.if-row-r.true)
+pub returns-then-not-is_empty : goal.returns-then-not-is_empty
+returns-then-not-is_empty c = refused _ (more05 c.in-Some.ensures (search rules))
 
 pub returns : goal.returns
-returns c =
-    let e = not-false _ c.if-not-row.false in
-    accepted (is_row05 c.hexes-row.ensures e c.if-row-r.false) (ap Apa05 (record05 c.hexes-row.ensures e))
+returns c = accepted (is_row05 c.in-Some.ensures (search rules)) (ap Apa05 (record05 c.in-Some.ensures))

@@ -8,8 +8,8 @@ use Rattle.search.proofs.Walk.{left}
 use Rattle.captures.specs.Finds.{first_wanted, next_in}
 use Rattle.captures.proofs.spans.find.Given as goal
 
-abbrev pub invariant-loop-at : goal.invariant-loop-at
-invariant-loop-at l = next_in l.family l.capture l.place l.reports ≡ first_wanted l.reports l.place (left l.family l.capture l.at)
+abbrev pub invariant-loop-first : goal.invariant-loop-first
+invariant-loop-first l = next_in l.family l.capture l.place l.reports ≡ first_wanted l.reports (left l.family l.capture l.at)
 
-abbrev pub decreases-loop-at : goal.decreases-loop-at
-decreases-loop-at l = length l.capture - l.at
+abbrev pub decreases-loop-first : goal.decreases-loop-first
+decreases-loop-first l = length l.capture - l.at

@@ -1,5 +1,6 @@
 -- What is left to show of `checksums::sentence_sums::fletcher`, with the invariants beside. Assumes nothing.
-use Rattle.std.proofs.Common.{◌≡◌, ℕ, ◌+◌, ◌*◌, ◌%◌, ◌^◌, ◌<◌, ◌≤◌, Bool, ◌&&◌, List, [], ◌∷◌, length, ap, ◌∙◌, add-one, arith, drop_of_length-le, drop-cons}
+use Rattle.std.proofs.Common.{◌≡◌, ℕ, ◌+◌, ◌*◌, ◌%◌, ◌^◌, ◌<◌, ◌≤◌, Bool, ◌&&◌, List, [], ◌∷◌, length, ap, ◌∙◌, arith, drop_of_length-le}
+use Rattle.texts.proofs.Steps.{at}
 use mathlib.Core.Bool.{and_assoc, and-true}
 use Rattle.rules.specs.Bytes.{every, total}
 use Rattle.rules.specs.Sentences.{is_payload_byte}
@@ -31,16 +32,13 @@ done p allowed s1 s2 weight l =
     let second : s2 ≡ weighed p % 256 = omega (arith, l.second, l.small.1) in
     simp (← l.tested, sum1_total, sum2_weighed, ← first, ← second, and-true)
 
-pub loop-i-preserved : goal.loop-i-preserved
-loop-i-preserved c =
+pub loop-b-preserved : goal.loop-b-preserved
+loop-b-preserved c =
     let p = c.args.p.now in
-    let h : c.loop-i.i < length p = omega arith in (
-      omega arith,
-      simp (c.wrapping_add_u8-sum2.ensures.value, c.weighed.ensures, c.wrapping_add_u8-sum1.ensures.value, c.payload_byte-allowed.ensures, add-one)
-          (next p _ _ _ _ _ _ _ (rw (drop-cons p c.loop-i.i 0) at c.loop-i.invariant.1) c.wrapping_sub_u8-weight.ensures.value (omega arith)),
-    )
+    rw c.payload_byte-allowed.ensures
+    (next p _ _ _ _ _ _ _ (rw (at p c.loop-b.b-index c.loop-b-test.true) at c.loop-b.invariant) (omega arith) (omega arith))
 
 pub returns : goal.returns
 returns c =
-    let h : length c.args.p.now ≤ c.loop-i.i = omega arith in
-    done c.args.p.now _ _ _ _ (rw (drop_of_length-le c.args.p.now h) at c.loop-i.invariant.1)
+    let h : length c.args.p.now ≤ c.loop-b.b-index = omega arith in
+    done c.args.p.now _ _ _ _ (rw (drop_of_length-le c.args.p.now h) at c.loop-b.invariant)

@@ -1,7 +1,7 @@
 -- `checksums::sentence_sums::fletcher` meets its contract. The loop's invariant: what is found so far, with what is
 -- found in the bytes that are left, is what is found in all of them, the sums modulo 256; and the weight is the number
--- of bytes left, modulo 256. The measure is what is left of the bytes. Assumes nothing.
-use Rattle.std.proofs.Common.{◌≡◌, ℕ, ◌+◌, ◌-◌, ◌%◌, ◌<◌, ◌≤◌, Bool, ◌&&◌, List, length, drop}
+-- of bytes left, modulo 256. Assumes nothing.
+use Rattle.std.proofs.Common.{◌≡◌, ℕ, ◌+◌, ◌%◌, ◌<◌, Bool, ◌&&◌, List, length, drop}
 use Rattle.rules.specs.Bytes.{every, total}
 use Rattle.rules.specs.Sentences.{is_payload_byte}
 use Rattle.checksums.proofs.Weights.{weighed}
@@ -15,8 +15,5 @@ pub record Left (p rest : List ℕ) (allowed : Bool) (s1 s2 weight : ℕ) : Type
   pub weighs : weight ≡ length rest % 256
   pub small : (s1 < 256) × (s2 < 256)
 
-abbrev pub invariant-loop-i : goal.invariant-loop-i
-invariant-loop-i l = (l.i ≤ length l.p) × Left l.p (drop l.i l.p) l.allowed l.sum1 l.sum2 l.weight
-
-abbrev pub decreases-loop-i : goal.decreases-loop-i
-decreases-loop-i l = length l.p - l.i
+abbrev pub invariant-loop-b : goal.invariant-loop-b
+invariant-loop-b l = Left l.p (drop l.b-index l.p) l.allowed l.sum1 l.sum2 l.weight

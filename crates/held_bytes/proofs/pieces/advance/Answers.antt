@@ -2,65 +2,77 @@
 -- first piece is taken, and where that leaves no frame, the search goes on from what was kept.
 -- Assumes nothing.
 use Prim.Native.Nat.{ℕ, ◌-◌, ◌≤◌}
-use mathlib.Core.Path.{◌≡◌, sym, ap, subst, ◌∙◌}
-use mathlib.Core.List.{List, []}
+use mathlib.Core.Path.{◌≡◌, sym, ap, ◌∙◌}
+use mathlib.Core.List.{List}
 use native.Mathlib.Omega.{arith}
 use lib.ListN.{length, take, drop, length-take, length-drop, take-append-drop}
 use lib.Seq.{take_all}
+use Rattle.std.specs.Prelude.{Ok}
+use Rattle.stream_rules.specs.declared.Progress.TheVariants.{More}
 use Rattle.stream_rules.specs.Heads.{head}
-use Rattle.stream_rules.specs.Rule.{Call, call}
+use Rattle.stream_rules.specs.Rule.{call}
+use Rattle.stream_rules.specs.Streams.{held_of, open_call}
+use Rattle.stream_rules.specs.declared.Fed.{Fed}
+use Rattle.stream_rules.specs.declared.Reader.{Reader}
 use Rattle.stream_laws.proofs.Lists.{whole_rest}
 use Rattle.stream_laws.proofs.States.{longest_fits}
-use Rattle.held_bytes.specs.declared.moves.Moved.{Moved}
-use Rattle.held_bytes.specs.Moves.{call_on, later, Opens}
+use Rattle.held_bytes.specs.Moves.{call_on, later, fed_at}
 use Rattle.held_bytes.proofs.Onward.{stays_ready, Goes, waits_on}
 use Rattle.held_bytes.proofs.Opening.{from_none}
 use Rattle.held_bytes.proofs.pieces.advance.Goals as goal
 use Rattle.held_bytes.proofs.pieces.advance.Goals.{In-More}
 
--- the same places and counts, of calls that are equal, and of bytes that are
-again : (family at skipped : ℕ) (c d : Call) (left : List ℕ) (m : Moved) → c ≡ d → Opens family at skipped c left m → Opens family at skipped d left m
-again family at skipped c d left m is opens = subst (λ (x : Call). Opens family at skipped x left m) is opens
-
-on : (family at skipped : ℕ) (held bytes others left : List ℕ) (m : Moved) → bytes ≡ others
-    → Opens family at skipped (call (head family) held bytes) left m → Opens family at skipped (call (head family) held others) left m
-on family at skipped held bytes others left m is opens = again family at skipped _ _ left m (ap (call (head family) held) is) opens
+-- a call on bytes that are others
+on : (r : Reader) (bytes others : List ℕ) (f : Fed) → bytes ≡ others → f ≡ open_call r (call (head r.family) (held_of r) bytes)
+    → f ≡ open_call r (call (head r.family) (held_of r) others)
+on r bytes others f is opens = opens ∙ ap (λ (l : List ℕ). open_call r (call (head r.family) (held_of r) l)) is
 
 -- where the piece leaves no frame, how the call goes on; what was kept is no longer than the piece
-next : (c : In-More)
-    → Goes c.args.family c.args.at c.args.skipped (take c.args.count c.args.held.now) c.args.offered.now c.take_piece-moved.result c.in-More.taken
+next : (c : In-More) → Goes c.args.reader.now c.args.offered.now c.take_piece-answer.new.reader c.in-More.taken
 next c =
-    waits_on c.args.family c.args.at c.args.skipped _ c.args.offered.now (omega (arith, c.if-offered-le-PLACES.false)) c.take_piece-moved.new.held _ c.in-More.taken
-    (on _ _ _ _ _ _ _ _ c.text.ensures.content c.take_piece-moved.ensures) c.in-More.is
+    waits_on c.args.reader.now c.args.offered.now (omega (arith, c.if-offered-le-PLACES.false)) (fed_at c.take_piece-answer.new.reader c.take_piece-answer.result) c.in-More.taken
+    (on _ _ _ _ c.text.ensures.content c.take_piece-answer.ensures) (c.in-Ok.is ∙ ap Ok c.in-More.is)
 
-short : (c : In-More) → c.take_piece-moved.result.count ≤ 133
-short c = omega (arith, (next c).short, longest_fits c.args.family)
+short : (c : In-More) → c.take_piece-answer.new.reader.count ≤ 133
+short c = omega (arith, (next c).short, longest_fits c.take_piece-answer.new.reader.family)
 
-pub returns-then-count-eq0 : goal.returns-then-count-eq0
-returns-then-count-eq0 c =
-    let none : take c.args.count c.args.held.now ≡ [] = ap (λ (n : ℕ). take n c.args.held.now) c.if-count-eq0.true in
-    again _ _ _ _ _ _ _ (from_none _ ∙ ap (λ (l : List ℕ). call (head c.args.family) l c.args.offered.now) (sym none)) c.turn_of.ensures
+pub returns-then-reader-eq0 : goal.returns-then-reader-eq0
+returns-then-reader-eq0 c =
+    let r = c.args.reader.now in
+    let offered = c.args.offered.now in
+    c.turn_of.ensures
+    ∙ ap (open_call r)
+    (from_none (call_on r offered)
+    ∙ ap (λ (n : ℕ). call (head r.family) (take n offered) (drop n offered)) c.if-reader-eq0.true
+    ∙ ap (λ (n : ℕ). call (head r.family) (take n r.held) offered) (sym c.if-reader-eq0.true))
 
-pub take_piece-moved-requires : goal.take_piece-moved-requires
-take_piece-moved-requires c = (c.requires, omega (arith, ap length c.text.ensures.content, length-take 133 c.args.offered.now))
+pub take_piece-answer-requires-clause-piece : goal.take_piece-answer-requires-clause-piece
+take_piece-answer-requires-clause-piece c = omega (arith, ap length c.text.ensures.content, length-take 133 c.args.offered.now)
 
 pub returns-then-offered-le-PLACES : goal.returns-then-offered-le-PLACES
-returns-then-offered-le-PLACES c =
-    on _ _ _ _ _ _ _ _ (c.text.ensures.content ∙ take_all 133 c.args.offered.now c.if-offered-le-PLACES.true) c.take_piece-moved.ensures
+returns-then-offered-le-PLACES c = on _ _ _ _ (c.text.ensures.content ∙ take_all 133 c.args.offered.now c.if-offered-le-PLACES.true) c.take_piece-answer.ensures
 
 pub returns-in_default : goal.returns-in_default
 returns-in_default c =
-    on _ _ _ _ _ _ _ _ (take-append-drop 133 c.args.offered.now)
-    (stays_ready c.args.family c.args.at c.args.skipped _ _ (drop 133 c.args.offered.now) _ _
-    (on _ _ _ _ _ _ _ _ c.text.ensures.content c.take_piece-moved.ensures) c.in_default.not-More)
+    on _ _ _ _ (take-append-drop 133 c.args.offered.now)
+    (stays_ready c.args.reader.now _ (drop 133 c.args.offered.now) _
+    (on _ _ _ _ c.text.ensures.content c.take_piece-answer.ensures) (λ n is. c.in_default.not-Ok _ is))
+
+pub returns-in_default-progress : goal.returns-in_default-progress
+returns-in_default-progress c =
+    ap (fed_at c.take_piece-answer.new.reader) (sym c.in-Ok.is)
+    ∙ on _ _ _ _ (take-append-drop 133 c.args.offered.now)
+    (stays_ready c.args.reader.now _ (drop 133 c.args.offered.now) _
+    (on _ _ _ _ c.text.ensures.content c.take_piece-answer.ensures)
+    (λ n is. let same : c.in-Ok.progress ≡ More n = cc in c.in_default-progress.not-More n same))
 
 pub overflow_sub-from : goal.overflow_sub-from
-overflow_sub-from c = short (goal.at.overflow_sub-from c).In-More
+overflow_sub-from c = omega (arith, short (goal.at.overflow_sub-from c).In-More)
 
 pub turn_of-requires-2 : goal.turn_of-requires-2
 turn_of-requires-2 c =
     let k = (goal.at.turn_of-requires-2 c).In-More in
-    let from = 133 - c.take_piece-moved.result.count in
+    let from = 133 - c.from-from.result in
     let size = ap length (whole_rest c.args.offered.now from) ∙ length-drop from c.args.offered.now in
     record {
       there = omega (arith, size, short k, c.if-offered-le-PLACES.false);
@@ -70,6 +82,8 @@ turn_of-requires-2 c =
 
 pub returns : goal.returns
 returns c =
-    let rest = whole_rest c.args.offered.now (133 - c.take_piece-moved.result.count) in
-    let is = ap (λ (l : List ℕ). later c.in-More.taken (call_on c.args.family l c.take_piece-moved.result.count)) rest in
-    (next (goal.at.returns c).In-More).whole _ _ (again _ _ _ _ _ _ _ is c.turn_of-2.ensures)
+    let s = c.take_piece-answer.new.reader in
+    let rest = whole_rest c.args.offered.now (133 - c.from-from.result) ∙ ap (λ (n : ℕ). drop (133 - n) c.args.offered.now) c.from-from.ensures in
+    c.turn_of-2.ensures
+    ∙ ap (λ (l : List ℕ). open_call s (later c.in-More.taken (call_on s l))) rest
+    ∙ (next (goal.at.returns c).In-More).whole

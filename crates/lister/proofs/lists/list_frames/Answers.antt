@@ -1,6 +1,9 @@
 -- `lister::lists::list_frames` meets its contract: its three tests are the refusals, in their order.
 -- Assumes nothing.
 use Prim.Native.Nat.{ℕ, ◌/◌, ◌≤◌, ◌<◌}
+use Rattle.rules.specs.declared.Refusal.{Refusal}
+use Rattle.rules.specs.declared.Refusal.TheVariants.{NoFamily, NoRoom, TooLong}
+use Rattle.std.specs.Prelude.{Err, Ok, Result}
 use native.Mathlib.Nat.{le-div_iff_mul-le, mul_comm}
 use mathlib.Core.Path.{◌≡◌, sym, ap, ◌∙◌}
 use mathlib.Core.Bool.{Bool, true, false, ◌&&◌, cond, not}
@@ -12,8 +15,6 @@ use lib.ListN.{length, drop}
 use Rattle.rules.specs.Answers.{is_family}
 use Rattle.stream_rules.specs.Heads.{shortest}
 use Rattle.stream_rules.specs.Lister.{frames, starts_of, fits, Lists}
-use Rattle.stream_rules.specs.declared.Listed.{Listed}
-use Rattle.stream_rules.specs.declared.Listed.TheVariants.{Count, Refused}
 use Rattle.stream_laws.proofs.Saying.{lists}
 use Rattle.lister.specs.Fills.{Fills}
 use Rattle.stream_laws.proofs.Heads.{shortest_of_all}
@@ -25,25 +26,25 @@ module _ (family : ℕ) (bs out : List ℕ) where
   room = leb (length (frames family bs)) (length out)
 
   -- the answer and the list, by the three tests
-  abbrev answer : Bool → Bool → Bool → Listed
-  answer f g r = cond (not f) (Refused 1) (cond (not g) (Refused 7) (cond (not r) (Refused 4) (Count (length (frames family bs)))))
+  abbrev answer : Bool → Bool → Bool → (Result ℕ Refusal)
+  answer f g r = cond (not f) (Err NoFamily) (cond (not g) (Err TooLong) (cond (not r) (Err NoRoom) (Ok (length (frames family bs)))))
 
   abbrev after : Bool → Bool → Bool → List ℕ
   after f g r = cond (f && g && r) (starts_of (frames family bs) ++ drop (length (frames family bs)) out) out
 
-  no_family : is_family family ≡ false → Lists family bs out (Refused 1) out
+  no_family : is_family family ≡ false → Lists family bs out (Err NoFamily) out
   no_family e = lists (λ i. answer (sym e i) (fits bs) room) (λ i. after (sym e i) (fits bs) room)
 
-  too_long : is_family family ≡ true → fits bs ≡ false → Lists family bs out (Refused 7) out
+  too_long : is_family family ≡ true → fits bs ≡ false → Lists family bs out (Err TooLong) out
   too_long e g = lists (λ i. answer (sym e i) (sym g i) room) (λ i. after (sym e i) (sym g i) room)
 
-  no_room : is_family family ≡ true → fits bs ≡ true → room ≡ false → Lists family bs out (Refused 4) out
+  no_room : is_family family ≡ true → fits bs ≡ true → room ≡ false → Lists family bs out (Err NoRoom) out
   no_room e g r = lists (λ i. answer (sym e i) (sym g i) (sym r i)) (λ i. after (sym e i) (sym g i) (sym r i))
 
   counts : is_family family ≡ true → fits bs ≡ true → room ≡ true → (n : ℕ) (left : List ℕ) → n ≡ length (frames family bs)
-      → left ≡ starts_of (frames family bs) ++ drop (length (frames family bs)) out → Lists family bs out (Count n) left
+      → left ≡ starts_of (frames family bs) ++ drop (length (frames family bs)) out → Lists family bs out (Ok n) left
   counts e g r n left count content =
-      lists (ap Count count ∙ (λ i. answer (sym e i) (sym g i) (sym r i))) (content ∙ (λ i. after (sym e i) (sym g i) (sym r i)))
+      lists (ap Ok count ∙ (λ i. answer (sym e i) (sym g i) (sym r i))) (content ∙ (λ i. after (sym e i) (sym g i) (sym r i)))
 
 -- where as many places are lent as the bytes have room for the family's frames, there is room
 some_bytes : (family : ℕ) → 0 < shortest family
@@ -57,7 +58,7 @@ room_for_all family bs out h =
 
 -- where the tests of the family and of the length have been passed: what is filled in is the answer, where there is room
 answered : (family : ℕ) (capture starts : List ℕ) → is_family family ≡ true → fits capture ≡ true → (n : ℕ) (after : List ℕ) → Fills family capture starts n after
-    → length (frames family capture) ≤ length starts → Lists family capture starts (Count n) after
+    → length (frames family capture) ≤ length starts → Lists family capture starts (Ok n) after
 answered family capture starts known fit n after done enough =
     counts family capture starts known fit (le-leb (length (frames family capture)) (length starts) enough) n after done.count (done.content enough)
 

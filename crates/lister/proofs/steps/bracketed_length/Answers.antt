@@ -1,8 +1,10 @@
 -- `lister::steps::bracketed_length` meets its contract: the run declares a length, and as many bytes are a good frame or none.
 -- Assumes nothing.
 use Prim.Native.Nat.{ℕ, ◌+◌, ◌<◌, ◌≤◌}
-use mathlib.Core.Path.{◌≡◌, sym, ap, subst, ◌∙◌}
-use mathlib.Core.Bool.{true}
+use mathlib.Core.Path.{◌≡◌, sym, ap, ◌∙◌}
+use mathlib.Core.Bool.{Bool}
+use Rattle.std.specs.Bool.{then_some}
+use Rattle.std.specs.Prelude.{None}
 use mathlib.Core.List.{List}
 use native.Mathlib.Omega.{arith}
 use lib.ListN.{length, take, get_or}
@@ -15,7 +17,7 @@ use Rattle.stream_laws.proofs.Heads.{good_head}
 use Rattle.stream_laws.proofs.Runs.{run}
 use Rattle.stream_laws.proofs.Starts.{NotGood, bad_not_good}
 use Rattle.lister.specs.GoodLengths.{good_length, IsBracketed, Counts, Enclosed}
-use Rattle.lister.proofs.GoodLengths.{length_none, not_declared, length_good, length_refused}
+use Rattle.lister.proofs.GoodLengths.{length_none, not_declared, length_tested}
 use Rattle.lister.proofs.steps.bracketed_length.Goals as goal
 
 module _ (family : ℕ) (is : Bracketed family) (bs : List ℕ) (n : ℕ) (h : Counts family n bs) where
@@ -64,7 +66,7 @@ module _ (family : ℕ) (k : Brackets) (s : List ℕ) (n : ℕ) (asked : IsBrack
     declares : length_at family s ≡ around (brackets_of family) n
     declares = declared family of_family s n asked.2 fits
 
-    missing : length s < n + 2 + k.tail → 0 ≡ good_length family s
+    missing : length s < n + 2 + k.tail → None ≡ good_length family s
     missing short = length_none family s (not_declared family s _ declares (omega (arith, whole_is, short)))
 
     -- with all bytes there,
@@ -72,7 +74,7 @@ module _ (family : ℕ) (k : Brackets) (s : List ℕ) (n : ℕ) (asked : IsBrack
       there : around (brackets_of family) n ≤ length s
       there = omega (arith, whole_is, enough)
 
-      unclosed : (get_or s (n + 1) 0 ≡ k.closing → ⊥) → 0 ≡ good_length family s
+      unclosed : (get_or s (n + 1) 0 ≡ k.closing → ⊥) → None ≡ good_length family s
       unclosed other =
           length_none family s
           (no_end family of_family s n asked.2 fits there (λ h. other (h ∙ sym (ap (λ (b : Brackets). b.closing) asked.1))))
@@ -87,8 +89,8 @@ module _ (family : ℕ) (k : Brackets) (s : List ℕ) (n : ℕ) (asked : IsBrack
         closes = closes ∙ ap (λ (b : Brackets). b.closing) asked.1;
       }
 
-      whole : is_good (read_one family (take (around (brackets_of family) n) s)) ≡ true → n + 2 + k.tail ≡ good_length family s
-      whole good = subst (λ (m : ℕ). m ≡ good_length family s) (sym whole_is) (length_good family s _ there good)
+      tested : (b : Bool) → b ≡ is_good (read_one family (take (around (brackets_of family) n) s)) → then_some b (n + 2 + k.tail) ≡ good_length family s
+      tested b is = ap (then_some b) whole_is ∙ length_tested family s _ there declares b is
 
 pub returns-then-k-n : goal.returns-then-k-n
 returns-then-k-n c =
@@ -110,8 +112,5 @@ returns-then-s-n c = unclosed _ _ _ _ c.requires c.if-k-n.false c.if-s-whole.fal
 pub says_good-requires : goal.says_good-requires
 says_good-requires c = (c.requires.0, enclosed _ _ _ _ c.requires c.if-k-n.false c.if-s-whole.false c.if-s-n.false)
 
-pub returns-then-says_good : goal.returns-then-says_good
-returns-then-says_good c = whole _ _ _ _ c.requires c.if-k-n.false c.if-s-whole.false (sym c.says_good.ensures ∙ c.if-says_good.true)
-
 pub returns : goal.returns
-returns c = length_refused _ _ _ (declares _ _ _ _ c.requires c.if-k-n.false) (sym c.says_good.ensures ∙ c.if-says_good.false)
+returns c = c.then_some.ensures ∙ tested _ _ _ _ c.requires c.if-k-n.false c.if-s-whole.false _ c.says_good.ensures

@@ -7,8 +7,5 @@ use Rattle.lister.proofs.steps.past_marks.Goals as goal
 pub loop-at-init : goal.loop-at-init
 loop-at-init c = nothing_passed _ _ _ c.requires
 
-pub overflow_sub-s : goal.overflow_sub-s
-overflow_sub-s c = omega (arith, c.loop-at.invariant.within)
-
 pub loop-at-preserved : goal.loop-at-preserved
 loop-at-preserved c = further 3 _ _ _ _ c.loop-at.invariant (over_mark 3 refl _ _ (omega arith) c.if-s-at-ne-COMMAND_MARK.false)

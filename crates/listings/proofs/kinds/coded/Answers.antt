@@ -4,4 +4,4 @@ use Rattle.lines.proofs.Typed.{◌then◌}
 use Rattle.listings.proofs.kinds.coded.Goals as goal
 
 pub returns : goal.returns
-returns c = c.text-place.ensures then c.hex_byte.ensures
+returns g c = c.text.ensures then c.hex_byte.ensures

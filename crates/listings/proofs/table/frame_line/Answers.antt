@@ -1,10 +1,10 @@
 -- `listings::table::frame_line` meets its contract: what is laid are the numbers and the kind of the next frame, and the
 -- tally is then one frame further.
 -- Assumes nothing.
-use Rattle.std.proofs.Common.{ℕ, ◌+◌, ◌≡◌, ap, ap₂, ◌∙◌, List, ◌++◌, length, get_or, arith}
+use Rattle.std.proofs.Common.{ℕ, ◌+◌, ◌≡◌, ap, ap₂, ◌∙◌, List, ◌++◌, length, arith}
 use Rattle.rules.specs.Bytes.{part}
 use Rattle.rules.specs.Answers.{read_one}
-use Rattle.rules.specs.declared.Reading.TheVariants.{Good}
+use Rattle.std.specs.Prelude.{Ok}
 use Rattle.stream_rules.specs.Rule.{Found}
 use Rattle.stream_rules.specs.Lister.{frame_from}
 use Rattle.lines.specs.Lines.{Types}
@@ -12,19 +12,19 @@ use Rattle.lines.proofs.Typed.{◌then◌}
 use Rattle.listings.specs.Listing.{number_texts, line_texts}
 use Rattle.listings.specs.Parts.{part_texts}
 use Rattle.listings.specs.declared.table.Tally.{Tally}
+use Rattle.listings.proofs.Answers.{room}
 use Rattle.listings.proofs.Tallies.{Next, next}
 use Rattle.listings.proofs.table.frame_line.Goals as goal
 
 -- what shows a frame's numbers and its bytes shows the frame
-shown : (family start skipped : ℕ) (bytes : List ℕ) (f : Found) {line after : List ℕ} {place : ℕ}
-    → start ≡ f.start → length bytes ≡ f.length → skipped ≡ f.skipped → read_one family bytes ≡ Good f.frame
-    → Types (number_texts start (length bytes) skipped ++ part_texts family bytes) line 0 after place
-    → Types (line_texts f) line 0 after place
+shown : (family start skipped : ℕ) (bytes : List ℕ) (f : Found) {line after : List ℕ} {at place : ℕ}
+    → start ≡ f.start → length bytes ≡ f.length → skipped ≡ f.skipped → read_one family bytes ≡ Ok f.frame
+    → Types (number_texts start (length bytes) skipped ++ part_texts family bytes) line at after place
+    → Types (line_texts f) line at after place
 shown family start skipped bytes f a b c d typed = rw (a, b, c, d) at typed
 
 -- The bytes that are given for the next frame.
-module _ (capture starts : List ℕ) (t : Tally) (h : Next capture starts t) (bytes : List ℕ)
-    (is : bytes ≡ frame_from t.family capture (get_or starts t.listed 0)) where
+module _ (capture : List ℕ) (start : ℕ) (t : Tally) (h : Next capture start t) (bytes : List ℕ) (is : bytes ≡ frame_from t.family capture start) where
   its_bytes : bytes ≡ part h.frame.start h.frame.length capture
   its_bytes = is ∙ ap (frame_from t.family capture) h.starts_here ∙ h.given
 
@@ -32,22 +32,25 @@ module _ (capture starts : List ℕ) (t : Tally) (h : Next capture starts t) (by
   its_length = ap length its_bytes ∙ h.stands.size
 
 pub overflow_sub-start : goal.overflow_sub-start
-overflow_sub-start c =
+overflow_sub-start g c =
     let h = next _ _ _ c.requires in
     omega (arith, h.starts_here, h.place)
 
-pub overflow_add-further-2 : goal.overflow_add-further-2
-overflow_add-further-2 c =
+pub overflow_add-result : goal.overflow_add-result
+overflow_add-result g c = omega (arith, c.requires.there, room c.args.tally.family _ c.requires.short)
+
+pub overflow_add-result-2 : goal.overflow_add-result-2
+overflow_add-result-2 g c =
     let h = next _ _ _ c.requires in
     omega (arith, h.starts_here, its_length _ _ _ h _ c.next_frame-frame.ensures.content, h.stands.inside, h.short)
 
-pub overflow_add-further-3 : goal.overflow_add-further-3
-overflow_add-further-3 c =
+pub overflow_add-result-3 : goal.overflow_add-result-3
+overflow_add-result-3 g c =
     let h = next _ _ _ c.requires in
     omega (arith, its_length _ _ _ h _ c.next_frame-frame.ensures.content, h.apart, h.place, h.stands.inside, h.short)
 
 pub returns : goal.returns
-returns c =
+returns g c =
     let a = c.args in
     let h = next _ _ _ c.requires in
     let f = h.frame in
@@ -60,7 +63,7 @@ returns c =
           its
           (omega (arith, h.starts_here, h.place))
           (ap (read_one a.tally.family) (its_bytes _ _ _ h bytes c.next_frame-frame.ensures.content) ∙ h.stands.read)
-          (c.numbers-at.ensures then c.part_kind-place.ensures));
+          (c.numbers.ensures then c.part_kind.ensures));
       further = ap₂
           (λ (end inside : ℕ). record { family = a.tally.family; listed = a.tally.listed + 1; end = end; inside = inside })
           (omega (arith, h.starts_here, its, h.end))

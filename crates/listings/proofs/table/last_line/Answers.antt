@@ -11,22 +11,22 @@ use Rattle.listings.proofs.Tallies.{Told, all_told}
 use Rattle.listings.proofs.table.last_line.Goals as goal
 
 -- what is told is what the last line tells
-told : (family : ℕ) (capture : List ℕ) (t : Tally) {line after : List ℕ} {place : ℕ} → Told family capture t
-    → Types (ascii "frames" ∷ spaced_texts t.listed ++ ascii " bytes" ∷ spaced_texts (length capture) ++ ascii " skipped" ∷ spaced_texts (length capture - t.inside)) line 0 after place
-    → Types (last_texts family capture) line 0 after place
+told : (family : ℕ) (capture : List ℕ) (t : Tally) {line after : List ℕ} {at place : ℕ} → Told family capture t
+    → Types (ascii "frames" ∷ spaced_texts t.listed ++ ascii " bytes" ∷ spaced_texts (length capture) ++ ascii " skipped" ∷ spaced_texts (length capture - t.inside)) line at after place
+    → Types (last_texts family capture) line at after place
 told family capture t is typed = rw (is.all, is.bytes) at typed
 
 pub overflow_sub-capture : goal.overflow_sub-capture
-overflow_sub-capture c =
+overflow_sub-capture g c =
     let is = all_told _ _ c.args.tally c.requires in
     omega (arith, is.bytes, is.within)
 
 pub returns : goal.returns
-returns c =
+returns g c =
     told _ _ _ (all_told _ _ c.args.tally c.requires)
-    (c.text-at.ensures
-    then c.spaced-at.ensures
-    then c.text-at-2.ensures
-    then c.spaced-at-2.ensures
-    then c.text-at-3.ensures
-    then c.spaced.ensures)
+    (c.text.ensures
+    then c.spaced.ensures
+    then c.text-2.ensures
+    then c.spaced-2.ensures
+    then c.text-3.ensures
+    then c.spaced-3.ensures)

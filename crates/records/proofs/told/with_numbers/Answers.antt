@@ -1,4 +1,4 @@
--- What is left to show of `records::told::with_numbers`, with the invariants beside. Assumes nothing.
+-- What is left to show of `records::told::with_numbers`, with the invariant beside. Assumes nothing.
 use mathlib.Core.List.{map}
 use native.Mathlib.Numerals.{add-one}
 use native.Mathlib.Omega.{arith}
@@ -9,8 +9,7 @@ use mathlib.Core.Path.{◌≡◌}
 use lib.IntN.{pos}
 use lib.ListN.{length, get_or, length-map, get_or-map}
 use lib.Seq.{take-length}
-use Rattle.records.proofs.Places.{zeros_left, one_more}
-use Rattle.records.proofs.told.with_numbers.Invariants.{zeros}
+use Rattle.records.proofs.Places.{zeros, zeros_left, one_more}
 use Rattle.records.proofs.told.with_numbers.Goals as goal
 
 -- a number fits an `i64`, so it is stored as it is
@@ -20,12 +19,11 @@ loop-i-preserved c =
     let i = c.loop-i.i in
     let small : get_or numbers i 0 < 2 ^ 63 = omega (arith, c.type_inv.numbers i) in
     let all = length-map numbers (λ (n : ℕ). pos n) in
-    let stored = one_more zeros (map pos numbers) i (omega arith) (omega arith) in (
-      omega arith,
-      rw (c.loop-i.invariant.1, add-one, to_z_pos w64 (get_or numbers i 0) small, ← get_or-map (λ (n : ℕ). pos n) numbers i 0) stored,
-    )
+    let stored = one_more zeros (map pos numbers) i (omega arith) (omega arith) in
+    rw (c.loop-i.invariant, add-one, c.from.ensures, to_z_pos w64 (get_or numbers i 0) small, ← get_or-map (λ (n : ℕ). pos n) numbers i 0) stored
 
 pub returns : goal.returns
 returns c =
-    let all : c.loop-i.i ≡ length (map pos c.args.numbers.now) = rw length-map (omega arith) in
-    rw (c.loop-i.invariant.1, all, take-length, zeros_left)
+    let numbers = c.args.numbers.now in
+    let all : c.loop-i.i ≡ length numbers = omega arith in
+    rw (c.loop-i.invariant, all, ← length-map numbers (λ (n : ℕ). pos n), take-length, zeros_left)

@@ -7,10 +7,10 @@ use Rattle.replays.proofs.shown.frame.Goals as goal
 
 pub returns : goal.returns
 unfolding frame_texts
-returns c =
+returns g c =
     let told = c.fields_of-told.ensures in
-    rw told.kind at c.kind-place.ensures
-    then rw told.kind at c.asked-place.ensures
-    then rw (told_values told, c.forms_of-forms.ensures, told.kind) at c.shown-place.ensures
-    then c.text-place.ensures
+    rw told.kind at c.kind.ensures
+    then rw told.kind at c.asked.ensures
+    then rw (told_values told, c.forms_of.ensures, told.kind) at c.shown.ensures
+    then c.text.ensures
     then c.written.ensures

@@ -3,8 +3,8 @@
 use Rattle.replays.proofs.Answered.{longest, bytes_shown, dash_shown}
 use Rattle.replays.proofs.shown.written.Goals as goal
 
-pub returns-in_default : goal.returns-in_default
-returns-in_default c = rw (dash_shown _ c.write_frame-answer.ensures (longest _) _ c.in_default.is) at c.text.ensures
+pub returns-in-Err : goal.returns-in-Err
+returns-in-Err g c = rw (dash_shown _ c.write_frame.ensures (longest _) _ c.in-Err.is) at c.text.ensures
 
-pub returns : goal.returns
-returns c = rw (c.text-2.ensures.content, bytes_shown _ c.write_frame-answer.ensures (longest _) _ c.in-Length.is) at c.hex.ensures
+pub returns-in-Ok : goal.returns-in-Ok
+returns-in-Ok g c = rw (bytes_shown _ c.write_frame.ensures (longest _) _ c.in-Ok.is) at c.hex.ensures

@@ -6,8 +6,8 @@ use Rattle.lines.proofs.Typed.{◌then◌}
 use Rattle.replays.specs.Texts.{field_texts}
 use Rattle.replays.proofs.values.field.Goals as goal
 
-pub returns-then-form-eq75 : goal.returns-then-form-eq75
+pub returns-in-Model : goal.returns-in-Model
 unfolding field_texts
-returns-then-form-eq75 c =
+returns-in-Model g c =
     let read = to_z-of_z w64 c.args.v c.ranges.v in
-    rw c.if-form-eq75.true (rw read at c.signed-place.ensures then c.text.ensures)
+    rw c.in-Model.is (rw read at c.signed-in-Model.ensures then c.text.ensures)

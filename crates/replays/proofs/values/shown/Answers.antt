@@ -1,19 +1,23 @@
 -- `replays::values::shown` meets its contract: each value is typed in its turn, and behind the last nothing is left to be
 -- typed.
 -- Assumes nothing.
-use Rattle.std.proofs.Common.{get_or, pos, w64, rules}
+use Rattle.std.proofs.Common.{inl, inr, w64, rules}
 use mir.ValLaws.{to_z-of_z}
-use Rattle.lines.specs.Lines.{typed}
-use Rattle.replays.proofs.Onward.{step, next, shown_all}
+use Rattle.lines.proofs.Typed.{step, finished}
+use Rattle.replays.specs.Texts.{shown_texts}
+use Rattle.replays.proofs.Onward.{no_form, no_value}
 use Rattle.replays.proofs.values.shown.Goals as goal
 
-pub loop-i-preserved : goal.loop-i-preserved
-loop-i-preserved c =
-    let values = c.args.values.now in
-    let read = to_z-of_z w64 (get_or values c.loop-i.i (pos 0)) (search rules) in
-    let left = rw (next c.args.forms.now values c.loop-i.i c.requires c.loop-i-test.true) at c.loop-i.invariant in
-    step left (rw read at c.field-place.ensures)
+pub loop-form-preserved : goal.loop-form-preserved
+unfolding shown_texts
+loop-form-preserved g c =
+    let taken = c.in-Some.ensures.steps in
+    let read = to_z-of_z w64 c.in-Some.v.now (search rules) in
+    step (rw (taken.0, taken.1) at c.loop-form.invariant) (rw read at c.field.ensures)
 
 pub returns : goal.returns
-unfolding typed
-returns c = record { leaves = rw (shown_all c.args.forms.now c.args.values.now c.loop-i.i c.loop-i-test.false) at c.loop-i.invariant.makes }
+returns g c =
+    finished (elim c.in-None.ensures.steps [
+      | inl forms ↦ rw (no_form _ _ forms.1.0) at c.loop-form.invariant
+      | inr values ↦ rw (no_value _ _ values.1.0) at c.loop-form.invariant
+    ])

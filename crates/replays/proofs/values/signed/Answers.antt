@@ -1,6 +1,6 @@
 -- `replays::values::signed` meets its contract: a number below zero has a minus before its magnitude.
 -- Assumes nothing.
-use Rattle.std.proofs.Common.{◌≡◌, refl, true, [], ◌∷◌, ℤ, pos, negsuc, nat_abs, w64, arith}
+use Rattle.std.proofs.Common.{◌≡◌, refl, true, false, [], ◌∷◌, ℤ, pos, negsuc, nat_abs, w64, arith}
 use borrow.Author.Tests.{ltb-true}
 use lib.Signed.{lt_z}
 use mir.ValLaws.{to_z-of_z}
@@ -9,13 +9,23 @@ use Rattle.lines.specs.Lines.{decimal_text}
 use Rattle.lines.proofs.Typed.{◌then◌}
 use Rattle.replays.specs.Texts.{signed_texts}
 use Rattle.replays.proofs.values.signed.Goals as goal
+use Rattle.replays.proofs.values.signed.Goals.{then-z-lt0, else-z-lt0}
 
 below : (z : ℤ) → lt_z z (pos 0) ≡ true → signed_texts z ≡ ascii " -" ∷ decimal_text (nat_abs z) ∷ []
 unfolding signed_texts
 below (pos n) e = absurd (omega (arith, ltb-true n 0 e))
 below (negsuc n) e = refl
 
-pub returns-then-z-lt0 : goal.returns-then-z-lt0
-returns-then-z-lt0 c =
+not_below : (z : ℤ) → lt_z z (pos 0) ≡ false → signed_texts z ≡ ascii " " ∷ decimal_text (nat_abs z) ∷ []
+unfolding signed_texts
+not_below (pos n) e = refl
+not_below (negsuc n) e = cc
+
+pub returns : goal.returns
+returns g c =
     let read = to_z-of_z w64 c.args.z c.ranges.z in
-    rw (below c.args.z (rw read at c.if-z-lt0.true)) (c.text-place.ensures then rw (c.magnitude.ensures, read) at c.number.ensures)
+    let typed = c.text.ensures then rw (c.unsigned_abs.ensures.value, read) at c.number.ensures in
+    elim c.if-z-lt0.branch [
+      | then-z-lt0 w ↦ rw (below c.args.z (rw read at w.if-z-lt0.true)) (rw (w.text-is, w.as_slice.ensures) at typed)
+      | else-z-lt0 w ↦ rw (not_below c.args.z (rw read at w.if-z-lt0.false)) (rw (w.text-is, w.as_slice-else-z-lt0.ensures) at typed)
+    ]

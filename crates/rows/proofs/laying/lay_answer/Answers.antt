@@ -3,5 +3,5 @@
 use Rattle.rows.proofs.Outcomes.{lays_none}
 use Rattle.rows.proofs.laying.lay_answer.Goals as goal
 
-pub returns-in-Refused : goal.returns-in-Refused
-returns-in-Refused c = rw c.in-Refused.is (lays_none _)
+pub returns-in-Err : goal.returns-in-Err
+returns-in-Err c = rw c.in-Err.is (lays_none _)

@@ -10,6 +10,9 @@ use Rattle.stream_rules.specs.Heads.{is_spe, mark_of, needs}
 use Rattle.stream_laws.proofs.PacketStarts.{Marks, no_marks, one_more, no_mark, no_count, bytes_missing, all_there}
 use Rattle.search.specs.Seen.{seen}
 use Rattle.search.specs.declared.heads.Seen.TheVariants.{Whole, Bad, Undecided}
+use Rattle.std.specs.Prelude.{Some, None}
+use Rattle.starts.specs.Needed.{needed}
+use Rattle.starts.proofs.Needed.{needed_some, needed_none}
 use Rattle.search.proofs.Seeing.{undecided, by_whole, few, counted, bad_packet}
 use Rattle.search.proofs.heads.examine_packet.Goals as goal
 
@@ -34,15 +37,19 @@ module _ (family : ℕ) (spe : is_spe family ≡ true) (s : List ℕ) (mark : �
       bad_packet family spe s (i + 1) (omega arith) (omega arith) (no_mark family spe s i low there marks (λ e. other (e ∙ sym is)))
 
 -- With three marks and a count: what the start needs decides.
-module _ (family : ℕ) (spe : is_spe family ≡ true) (s : List ℕ) (there : 4 ≤ length s) (marks : Marks family 3 s) (declared : ℕ) (is : declared ≡ needs family s) where
-  not_allowed : declared ≡ 0 → Bad 4 ≡ seen family s
-  not_allowed zero = bad_packet family spe s 4 (omega arith) (omega arith) (no_count family spe s there marks (sym is ∙ zero))
+module _ (family : ℕ) (spe : is_spe family ≡ true) (s : List ℕ) (there : 4 ≤ length s) (marks : Marks family 3 s) where
+  not_allowed : None ≡ needed family s → Bad 4 ≡ seen family s
+  not_allowed none = bad_packet family spe s 4 (omega arith) (omega arith) (no_count family spe s there marks (needed_none family s none))
 
-  missing : length s < declared → Undecided ≡ seen family s
-  missing fewer = undecided family s (bytes_missing family spe s there marks declared (sym is) fewer)
+  module _ (n : ℕ) (some : Some n ≡ needed family s) where
+    is : needs family s ≡ n
+    is = sym (needed_some family s n some).0
 
-  whole : 0 < declared → declared ≤ length s → Whole declared ≡ seen family s
-  whole some enough = by_whole family s declared (all_there family spe s there marks declared (sym is) some enough) (counted family spe s ∙ sym is) (rw spe)
+    missing : length s < n → Undecided ≡ seen family s
+    missing fewer = undecided family s (bytes_missing family spe s there marks n is fewer)
+
+    whole : n ≤ length s → Whole n ≡ seen family s
+    whole enough = by_whole family s n (all_there family spe s there marks n is (needed_some family s n some).1 enough) (counted family spe s ∙ is) (rw spe)
 
 pub returns-then-s-eq0 : goal.returns-then-s-eq0
 returns-then-s-eq0 c = few _ c.requires _ 0 c.if-s-eq0.true (omega arith) (no_marks _ _)
@@ -69,17 +76,17 @@ pub returns-then-s-eq3 : goal.returns-then-s-eq3
 returns-then-s-eq3 c =
     few _ c.requires _ 3 c.if-s-eq3.true (omega arith) (three _ c.requires _ _ c.mark_of-mark.ensures c.if-s-mark.false c.if-s-mark-2.false c.if-s-mark-3.false)
 
-pub returns-then-n-eq0 : goal.returns-then-n-eq0
-returns-then-n-eq0 c =
-    not_allowed _ c.requires _ (omega arith)
-    (three _ c.requires _ _ c.mark_of-mark.ensures c.if-s-mark.false c.if-s-mark-2.false c.if-s-mark-3.false) _ c.bytes_needed-n.ensures c.if-n-eq0.true
+pub returns-in_default : goal.returns-in_default
+returns-in_default c =
+    not_allowed c.args.family c.requires c.args.s.now (omega arith)
+    (three _ c.requires _ _ c.mark_of-mark.ensures c.if-s-mark.false c.if-s-mark-2.false c.if-s-mark-3.false) c.in_default.ensures
 
 pub returns-then-s-n : goal.returns-then-s-n
 returns-then-s-n c =
-    missing _ c.requires _ (omega arith)
-    (three _ c.requires _ _ c.mark_of-mark.ensures c.if-s-mark.false c.if-s-mark-2.false c.if-s-mark-3.false) _ c.bytes_needed-n.ensures c.if-s-n.true
+    missing c.args.family c.requires c.args.s.now (omega arith)
+    (three _ c.requires _ _ c.mark_of-mark.ensures c.if-s-mark.false c.if-s-mark-2.false c.if-s-mark-3.false) _ c.in-Some.ensures c.if-s-n.true
 
 pub returns : goal.returns
 returns c =
-    whole _ c.requires _ (omega arith)
-    (three _ c.requires _ _ c.mark_of-mark.ensures c.if-s-mark.false c.if-s-mark-2.false c.if-s-mark-3.false) _ c.bytes_needed-n.ensures (omega arith) c.if-s-n.false
+    whole c.args.family c.requires c.args.s.now (omega arith)
+    (three _ c.requires _ _ c.mark_of-mark.ensures c.if-s-mark.false c.if-s-mark-2.false c.if-s-mark-3.false) _ c.in-Some.ensures c.if-s-n.false

@@ -1,7 +1,7 @@
 -- `spe::ends::ends_report` meets its contract: its tests are those of the definition, behind the comma or where it would stand.
 -- Assumes nothing.
 use Prim.Native.Nat.{ℕ, ◌+◌, ◌≤◌, ◌<◌}
-use mathlib.Core.Path.{◌≡◌, sym}
+use mathlib.Core.Path.{◌≡◌, sym, ◌∙◌}
 use mathlib.Core.Bool.{false, ◌&&◌}
 use mathlib.Core.List.{List}
 use native.Mathlib.Omega.{arith}
@@ -24,8 +24,8 @@ module _ (s : List ℕ) (n : ℕ) (seen : n ≡ comma_in s) where
       rw (seen, le-leb (report_length_in s) (length s) whole) (sym (by_bytes s whole))
 
 pub returns-then-s-comma : goal.returns-then-s-comma
-returns-then-s-comma c = is_cut _ _ c.comma_in-comma.ensures c.if-s-comma.true
+returns-then-s-comma c = is_cut _ _ (c.from-comma.ensures ∙ c.comma_in.ensures) c.if-s-comma.true
 
 pub returns : goal.returns
 returns c =
-    is_whole _ _ c.comma_in-comma.ensures (omega (arith, c.if-s-comma.false))
+    is_whole _ _ (c.from-comma.ensures ∙ c.comma_in.ensures) (omega (arith, c.if-s-comma.false))

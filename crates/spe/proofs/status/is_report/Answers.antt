@@ -39,5 +39,5 @@ returns c =
     let total_is = exact s size (λ k. (c.type_inv.s k).fits) _ (c.sum-sum.ensures ∙ data_is) in
     let begins = sym c.begins_report.ensures ∙ c.if-not-begins_report.false in
     let ends = sym c.ends_report.ensures ∙ c.if-not-ends_report.false in
-    (λ i. eqb (c.wide.ensures i) (total_is i % 256) && eqb (c.wide-2.ensures i) (total_is i / 256))
+    (λ i. eqb (c.from.ensures i) (total_is i % 256) && eqb (c.from-2.ensures i) (total_is i / 256))
     ∙ sym (good_ends s size begins ends)

@@ -7,7 +7,7 @@ use mathlib.Core.List.{List}
 use borrow.Author.Tests.{eq-eqb, ne_eqb}
 use lib.Dec.{eqb, leb}
 use lib.ListN.{length, get_or}
-use Rattle.rules.specs.Bytes.{one_of, every}
+use Rattle.rules.specs.Bytes.{ascii, one_of, every}
 use Rattle.frame_laws.proofs.Bytes.{one_by_one, places}
 use Rattle.spe.specs.ReportTests.{limits20_k, limits13_k, limits_good}
 use Rattle.spe.proofs.status.limits.Goals as goal
@@ -21,7 +21,7 @@ module _ (d : List ℕ) (size : length d ≡ 67) where
 
   abbrev tests13_k : Bool
   tests13_k =
-      eqb (x 2) 51 && (eqb (x 9) 65 || eqb (x 9) 66) && (eqb (x 13) 48 || leb (x 14) 49) && leb (x 16) 52 && leb (x 19) 52
+      eqb (x 2) 51 && one_of (ascii "AB") (x 9) && (eqb (x 13) 48 || leb (x 14) 49) && leb (x 16) 52 && leb (x 19) 52
       && leb (x 55) 48 && leb (x 56) 48 && leb (x 57) 48 && leb (x 59) 48 && leb (x 60) 48 && leb (x 61) 48
 
   tests_are : (big : Bool) → cond big tests20_k tests13_k ≡ cond big (limits20_k (places 0 67 0 d)) (limits13_k (places 0 67 0 d))
@@ -41,5 +41,4 @@ returns-then-d-eq50 c =
     limits_are c.args.d.now c.requires true (eq-eqb _ 50 c.if-d-eq50.true)
 
 pub returns : goal.returns
-returns c =
-    limits_are c.args.d.now c.requires false (ne_eqb _ 50 c.if-d-eq50.false)
+returns c = rw c.one_of.ensures (limits_are c.args.d.now c.requires false (ne_eqb _ 50 c.if-d-eq50.false))

@@ -27,17 +27,12 @@ one_left (m ∷ marks) a = refl
 all_done : (marks d : List ℕ) (i : ℕ) (good : Bool) → length d ≡ i + 1 → (good && all_follow (drop i marks) (drop i d)) ≡ good
 all_done marks d i good h = rw (last 1 i d h, one_left (drop i marks) (get_or d i 0)) (and-true good)
 
-pub loop-i-init : goal.loop-i-init
-loop-i-init c = (omega arith, refl)
-
 pub loop-i-preserved : goal.loop-i-preserved
 loop-i-preserved c =
-    let a = c.args in (
-      omega arith,
-      c.loop-i.invariant.1 ∙ one_more a.marks.now a.d.now c.loop-i.i c.loop-i.good (omega arith) (omega arith),
-    )
+    let a = c.args in
+    c.loop-i.invariant ∙ one_more a.marks.now a.d.now c.loop-i.i c.loop-i.good (omega arith) (omega arith)
 
 pub returns : goal.returns
 returns c =
     let a = c.args in
-    sym (c.loop-i.invariant.1 ∙ all_done a.marks.now a.d.now c.loop-i.i c.loop-i.good (omega arith))
+    sym (c.loop-i.invariant ∙ all_done a.marks.now a.d.now c.loop-i.i c.loop-i.good (omega arith))

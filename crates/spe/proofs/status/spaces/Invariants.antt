@@ -1,7 +1,6 @@
 -- `spe::status::spaces` meets its contract. The loop's invariant: all bytes follow exactly when those before i did and those from
--- i on do. The measure is what is left of the 66 pairs.
+-- i on do.
 -- Assumes nothing.
-use Prim.Native.Nat.{◌-◌, ◌≤◌}
 use mathlib.Core.Path.{◌≡◌}
 use mathlib.Core.Bool.{◌&&◌}
 use lib.ListN.{drop}
@@ -9,7 +8,4 @@ use Rattle.spe.specs.ReportTests.{all_follow}
 use Rattle.spe.proofs.status.spaces.Given as goal
 
 abbrev pub invariant-loop-i : goal.invariant-loop-i
-invariant-loop-i l = (l.i ≤ 66) × (all_follow l.marks l.d ≡ (l.good && all_follow (drop l.i l.marks) (drop l.i l.d)))
-
-abbrev pub decreases-loop-i : goal.decreases-loop-i
-decreases-loop-i l = 66 - l.i
+invariant-loop-i l = all_follow l.marks l.d ≡ (l.good && all_follow (drop l.i l.marks) (drop l.i l.d))

@@ -6,4 +6,4 @@ use Rattle.pens.proofs.Writing.{writes}
 use Rattle.spe_writer.proofs.packets.write_packet.Goals as goal
 
 pub returns : goal.returns
-returns c = writes refl refl (omega arith) c.put_bytes.ensures
+returns c = writes c.if-not-allowed.false refl (omega arith) c.put_bytes.ensures

@@ -13,10 +13,10 @@ pub returns : goal.returns
 unfolding status_texts commas
 returns c =
     let f = fits _ c.requires.0 in
-    (zeros_row 2 _ (omega arith) c.put_field.ensures
-    then zeros_row 1 _ (omega arith) c.put_field-2.ensures
+    (zeros_row 2 _ (omega arith) (rw c.from.ensures at c.put_field.ensures)
+    then zeros_row 1 _ (omega arith) (rw c.from-2.ensures at c.put_field-2.ensures)
     then row refl c.put_byte.ensures
-    then zeros_row 1 _ (omega arith) c.put_field-3.ensures
+    then zeros_row 1 _ (omega arith) (rw c.from-3.ensures at c.put_field-3.ensures)
     then row refl c.put_byte-2.ensures
     then row refl c.put_letter.ensures).laying (omega (arith, c.requires.1))
     ∙ simp append_assoc

@@ -1,6 +1,6 @@
 -- `spe_writer::status::lay_check` meets its contract: 67 bytes have a sum below 2^16, so that nothing of it is lost.
 -- Assumes nothing.
-use Prim.Native.Nat.{ℕ, ◌*◌, ◌%◌, ◌^◌, ◌≤◌, ◌<◌}
+use Prim.Native.Nat.{ℕ, ◌*◌, ◌/◌, ◌%◌, ◌^◌, ◌≤◌, ◌<◌}
 use mathlib.Core.Path.{◌≡◌, ◌∙◌}
 use mathlib.Core.List.{List}
 use native.Mathlib.Nat.{mod-eq_of_lt}
@@ -20,8 +20,9 @@ whole out sum bytes e =
     let same = e ∙ mod-eq_of_lt {n = total data₁} {m = 2 ^ 32} (omega arith) in
     (same, omega arith)
 
-pub overflow_cast-high : goal.overflow_cast-high
-overflow_cast-high c = omega (arith, (whole c.args.out.now _ (λ i. search rules) c.sum-sum.ensures).1)
-
 pub returns : goal.returns
-returns c = c.put_bytes.ensures ∙ rw (whole c.args.out.now _ (λ i. search rules) c.sum-sum.ensures).0
+returns c =
+    let sum = c.sum-sum.result in
+    let known = whole c.args.out.now sum (λ i. search rules) c.sum-sum.ensures in
+    let high : sum / 256 % 256 ≡ sum / 256 = mod-eq_of_lt (omega (arith, known.1)) in
+    c.put_bytes.ensures ∙ rw (c.to_le_bytes.ensures, high, known.0)

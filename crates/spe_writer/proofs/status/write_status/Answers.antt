@@ -14,4 +14,4 @@ returns-then-out-length c =
 pub returns : goal.returns
 returns c =
     let in_range = sym c.status_in_range.ensures ∙ c.if-not-status_in_range.false in
-    writes in_range (report-length _ in_range) (omega arith) c.lay_status.ensures
+    writes in_range (omega (arith, report-length _ in_range, c.from-length.ensures)) (omega arith) c.lay_status.ensures

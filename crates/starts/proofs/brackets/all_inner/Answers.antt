@@ -1,65 +1,28 @@
--- What is left to show of `starts::brackets::all_inner`, with the invariants beside. Assumes nothing.
-use Rattle.std.proofs.Common.{◌≡◌, ℕ, ◌+◌, ◌<◌, Bool, true, false, ◌&&◌, eqb, List, [], ◌∷◌, ◌++◌, length, get_or, take, sym, refl, ap, ◌∙◌, subst, add-one, arith, take-suc, eq-eqb, ne_eqb, eqb-true}
-use mathlib.Core.Bool.{and-true, and-false}
-use Rattle.rules.specs.Bytes.{every}
-use Rattle.frame_laws.proofs.Bytes.{alike, both_pass, both_left, both_right, every_left, every_right, every_append, every_cons, every_split}
+-- `starts::brackets::all_inner` meets its contract: as many bytes pass as there are.
+-- Assumes nothing.
+use Rattle.std.proofs.Common.{◌≡◌, ℕ, cond, eqb, length, sym, ap, ◌∙◌, rules, tests, arith}
+use Rattle.std.specs.List.{count_by}
+use Rattle.std.proofs.lemmas.Iterator.{YieldsList-from_slice, YieldsList-from_map}
+use Rattle.std.proofs.lemmas.Iterator.Consumers.{sum_by_from_yields_List, fits_by_from_yields_list}
 use Rattle.stream_rules.specs.Heads.{is_inner}
-use Rattle.stream_rules.specs.declared.Brackets.{Brackets}
-use Rattle.starts.proofs.brackets.all_inner.Invariants.{Counted}
+use Rattle.starts.proofs.Blocks.{few_pass, all_pass}
 use Rattle.starts.proofs.brackets.all_inner.Goals as goal
-use Rattle.starts.proofs.brackets.all_inner.Goals.{then-text_byte, else-text_byte}
 
-module _ (k : Brackets) (block : List ℕ) (i : ℕ) (there : i < length block) where
-  abbrev b : ℕ
-  b = get_or block i 0
+pub sum-inner-requires-clause-fits : goal.sum-inner-requires-clause-fits
+sum-inner-requires-clause-fits c =
+    let test = is_inner c.args.k in
+    let block = c.args.block.now in
+    let long : length block ≡ 16 = search rules in
+    fits_by_from_yields_list (λ (b : ℕ). cond (test b) 1 0) block c.map.result 256
+    (YieldsList-from_map _ (λ (b : ℕ). cond (test b) 1 0) (YieldsList-from_slice block cc) c.map.ensures.closure (λ x r q k. search (rules, tests)))
+    (omega (arith, few_pass test block, long))
 
-  -- with one byte more, each is an inner byte where each was and this one is
-  both_ways : every (is_inner k) (take i block ++ b ∷ []) ≡ (every (is_inner k) (take i block) && is_inner k b)
-  unfolding every
-  both_ways =
-      alike (every (is_inner k) (take i block ++ b ∷ [])) (every (is_inner k) (take i block) && is_inner k b)
-      (λ e.
-      both_pass (every (is_inner k) (take i block)) (is_inner k b) (every_left (is_inner k) (take i block) (b ∷ []) e)
-      (every_split (is_inner k) b [] (every_right (is_inner k) (take i block) (b ∷ []) e)).0)
-      (λ e.
-      every_append (is_inner k) (take i block) (b ∷ []) (both_left (every (is_inner k) (take i block)) (is_inner k b) e)
-      (every_cons (is_inner k) b [] (both_right (every (is_inner k) (take i block)) (is_inner k b) e) refl))
-
-  more : every (is_inner k) (take (i + 1) block) ≡ (every (is_inner k) (take i block) && is_inner k b)
-  more = ap (λ (j : ℕ). every (is_inner k) (take j block)) (add-one i) ∙ ap (every (is_inner k)) (take-suc block i 0 there) ∙ both_ways
-
-  passes : (n : ℕ) → Counted k block i n → is_inner k b ≡ true → Counted k block (i + 1) (n + 1)
-  passes n c inner = record {
-    some = omega (arith, c.some);
-    all = same_next ∙ c.all ∙ sym (and-true (every (is_inner k) (take i block))) ∙ sym (more ∙ ap (λ (t : Bool). every (is_inner k) (take i block) && t) inner);
-  }
-    where
-      same_next : eqb (n + 1) (i + 1) ≡ eqb n i
-      same_next =
-          alike _ _
-          (λ e. eq-eqb n i (omega (arith, eqb-true (n + 1) (i + 1) e)))
-          (λ e. eq-eqb (n + 1) (i + 1) (omega (arith, eqb-true n i e)))
-
-  fails : (n : ℕ) → Counted k block i n → is_inner k b ≡ false → Counted k block (i + 1) n
-  fails n c outer = record {
-    some = omega (arith, c.some);
-    all = ne_eqb n (i + 1) (λ e. omega (arith, e, c.some))
-        ∙ sym (more ∙ ap (λ (t : Bool). every (is_inner k) (take i block) && t) outer ∙ and-false (every (is_inner k) (take i block)));
-  }
-
-pub loop-i-init : goal.loop-i-init
-unfolding every
-loop-i-init c = (omega arith, record { some = omega arith; all = refl })
-
-pub loop-i-preserved : goal.loop-i-preserved
-loop-i-preserved c =
-    let i = c.loop-i.i in
-    let n = c.loop-i.n in
-    let there : i < length c.args.block.now = omega arith in
-    let so_far = c.loop-i.invariant.1 in (
-      omega arith,
-      elim c.if-text_byte.branch [
-        | then-text_byte w ↦ subst (Counted c.args.k c.args.block.now (i + 1)) (sym w.n-is) (passes _ _ i there n so_far (sym c.text_byte.ensures ∙ w.if-text_byte.true))
-        | else-text_byte w ↦ subst (Counted c.args.k c.args.block.now (i + 1)) (sym w.n-is) (fails _ _ i there n so_far (sym c.text_byte.ensures ∙ w.if-text_byte.false))
-      ],
-    )
+pub returns : goal.returns
+returns c =
+    let test = is_inner c.args.k in
+    let block = c.args.block.now in
+    let counted : c.sum-inner.result ≡ count_by test block =
+    sum_by_from_yields_List (λ (b : ℕ). cond (test b) 1 0) block c.map.result _ c.sum-inner.ensures.ran
+    (YieldsList-from_map _ (λ (b : ℕ). cond (test b) 1 0) (YieldsList-from_slice block cc) c.map.ensures.closure (λ x r q k. search (rules, tests))) in
+    let long : length block ≡ 16 = search rules in
+    ap (λ (n : ℕ). eqb n 16) counted ∙ ap (eqb (count_by test block)) (sym long) ∙ all_pass test block

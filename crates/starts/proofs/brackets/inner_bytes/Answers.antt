@@ -10,7 +10,7 @@ pub returns : goal.returns
 returns c =
     let a = c.args in
     let bytes = a.p.now in
-    let n = c.one_more.result in
+    let n = c.saturating_add.result in
     c.run_by_blocks.ensures
     ∙ ap (λ (l : List ℕ). length (inner_run a.k l)) c.text.ensures.content
-    ∙ omega (arith, run_take a.k n bytes, run_within a.k bytes, c.one_more.ensures)
+    ∙ omega (arith, run_take a.k n bytes, run_within a.k bytes, c.saturating_add.ensures)

@@ -1,33 +1,15 @@
--- What is left to show of `texts::commas::to_comma`, with the invariants beside. Assumes nothing.
-use Rattle.std.proofs.Common.{◌≡◌, ℕ, suc, ◌+◌, ◌-◌, ◌<◌, ◌≤◌, List, length, get_or, drop, refl, add-one, arith, drop_of_length-le, drop-cons, eq-eqb, ne_eqb}
-use Rattle.texts.specs.Commas.{to_comma}
+-- `texts::commas::to_comma` meets its contract. Assumes nothing.
+use Rattle.std.proofs.Common.{◌≡◌, ℕ, ◌+◌, ◌-◌, eqb, take, drop, length, ◌∙◌, ap, rules, tests}
+use Rattle.std.specs.List.{position}
+use Rattle.std.proofs.lemmas.Iterator.{YieldsList-from_slice}
+use Rattle.std.proofs.lemmas.Iterator.Search.{position_from_yields_List}
+use Rattle.texts.proofs.FieldEnds.{first_place, from_place}
 use Rattle.texts.proofs.commas.to_comma.Goals as goal
 
-module _ (s : List ℕ) (e : ℕ) where
-  here : e < length s → get_or s e 0 ≡ 44 → to_comma (drop e s) ≡ 0
-  unfolding to_comma
-  here h q = rw (drop-cons s e 0, eq-eqb _ _ q)
-
-  further : e < length s → (get_or s e 0 ≡ 44 → ⊥) → to_comma (drop e s) ≡ suc (to_comma (drop (e + 1) s))
-  unfolding to_comma
-  further h q = rw (add-one, drop-cons s e 0, ne_eqb _ _ q)
-
-  none : length s ≤ e → to_comma (drop e s) ≡ 0
-  unfolding to_comma
-  none h = rw (drop_of_length-le s h)
-
-pub loop-e-init : goal.loop-e-init
-loop-e-init c = refl
-
-pub returns-then-s-e-eq44 : goal.returns-then-s-e-eq44
-returns-then-s-e-eq44 c =
-    let turn = c.before.before.before in
-    omega (arith, here turn.before.args.s.now turn.loop-e.e (omega arith) c.if-s-e-eq44.true)
-
-pub loop-e-preserved : goal.loop-e-preserved
-loop-e-preserved c =
-    let turn = c.before.before.before in
-    omega (arith, further turn.before.args.s.now turn.loop-e.e (omega arith) c.if-s-e-eq44.false)
-
 pub returns : goal.returns
-returns c = omega (arith, none c.before.before.args.s.now c.before.loop-e.e (omega arith))
+returns c =
+    let rest = take (length c.args.s.now - c.min.result) (drop c.min.result c.args.s.now) in
+    let found : c.position.result ≡ position (λ b. eqb b 44) rest =
+    position_from_yields_List (λ b. eqb b 44) _ _ c.position.result c.position.ensures.ran (YieldsList-from_slice rest c.iter.ensures.rest) (λ x b q k. search (rules, tests)) in
+    ap (λ (n : ℕ). c.args.a + n)
+    (c.unwrap_or.ensures ∙ rw (found, c.min.ensures, from_place c.args.a c.args.s.now) (first_place (drop c.args.a c.args.s.now)))

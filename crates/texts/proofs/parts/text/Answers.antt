@@ -1,7 +1,7 @@
 -- `texts::parts::text` meets its contract: where the bytes end before the place or before the n bytes do, what there is of them
 -- is what `part` takes.
 -- Assumes nothing.
-use Rattle.std.proofs.Common.{◌≡◌, ℕ, ◌-◌, ◌<◌, ◌≤◌, List, [], length, take, drop, sym, ap, ◌∙◌, arith, length-drop, drop_of_length-le, take_all, rules, le-ltb, lt-ltb}
+use Rattle.std.proofs.Common.{◌≡◌, ℕ, ◌-◌, ◌<◌, ◌≤◌, List, [], length, take, drop, sym, ap, ◌∙◌, arith, length-drop, drop_of_length-le, take_all, le-ltb, lt-ltb}
 use native.Mathlib.Nat.{add-sub_cancel_left}
 use lib.Seq.{take-nil}
 use Rattle.rules.specs.Bytes.{part}

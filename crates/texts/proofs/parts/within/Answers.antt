@@ -1,10 +1,11 @@
 -- What is left to show of `texts::parts::within`, with the invariants beside. Assumes nothing.
-use Rattle.std.proofs.Common.{◌≡◌, ℕ, ◌+◌, ◌-◌, ◌<◌, ◌≤◌, Bool, false, ◌&&◌, leb, List, [], ◌∷◌, length, get_or, drop, sym, refl, ap, ◌∙◌, arith}
+use Rattle.std.proofs.Common.{◌≡◌, ℕ, ◌+◌, ◌<◌, ◌≤◌, Bool, false, ◌&&◌, leb, List, [], ◌∷◌, length, get_or, drop, sym, refl, ap, ◌∙◌, arith}
 use mathlib.Core.Bool.{and-true, and-false, and_assoc}
 use Rattle.rules.specs.Bytes.{between}
 use Rattle.texts.specs.Parts.{in_bounds}
 use Rattle.texts.proofs.Steps.{at, done}
 use Rattle.texts.proofs.parts.within.Goals as goal
+use Rattle.texts.proofs.parts.within.Goals.{then-least-s-via-then-least-s, then-least-s-via-else-least-s+then-most-s}
 
 -- bounds are missing
 missing : (least most s : List ℕ) → (length s ≤ length least → length s ≤ length most → ⊥) → in_bounds least most s ≡ false
@@ -28,24 +29,16 @@ unfolding in_bounds
 all_done least most s i good h = rw (done s i h) (and-true good)
 
 pub returns-then-least-s : goal.returns-then-least-s
-returns-then-least-s c = sym (missing _ _ _ (λ p q. omega arith))
-
-pub returns-then-most-s : goal.returns-then-most-s
-returns-then-most-s c = sym (missing _ _ _ (λ p q. omega arith))
-
-pub loop-i-init : goal.loop-i-init
-loop-i-init c = (omega arith, refl)
+returns-then-least-s c =
+    elim c.then-least-s.branch [
+      | then-least-s-via-then-least-s w ↦ sym (missing _ _ _ (λ p q. omega arith))
+      | then-least-s-via-else-least-s+then-most-s w ↦ sym (missing _ _ _ (λ p q. omega arith))
+    ]
 
 pub loop-i-preserved : goal.loop-i-preserved
 loop-i-preserved c =
-    let head = c.before.before.before.before.before in
-    let a = head.before.before.before.args in (
-      omega arith,
-      head.loop-i.invariant.1
-          ∙ one_more a.least.now a.most.now a.s.now head.loop-i.i head.loop-i.good (omega arith) (omega arith) (omega arith),
-    )
+    c.loop-i.invariant ∙ one_more c.args.least.now c.args.most.now c.args.s.now c.loop-i.i c.loop-i.good (omega arith) (omega arith) (omega arith)
 
 pub returns : goal.returns
 returns c =
-    let a = c.before.before.before.before.args in
-    sym (c.before.loop-i.invariant.1 ∙ all_done a.least.now a.most.now a.s.now c.before.loop-i.i c.before.loop-i.good (omega arith))
+    sym (c.loop-i.invariant ∙ all_done c.args.least.now c.args.most.now c.args.s.now c.loop-i.i c.loop-i.good (omega arith))

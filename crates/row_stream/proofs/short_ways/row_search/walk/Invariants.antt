@@ -8,7 +8,7 @@ use Rattle.search.specs.Sought.{Stops}
 use Rattle.row_stream.proofs.short_ways.row_search.walk.Given as goal
 
 abbrev pub invariant-loop-stop : goal.invariant-loop-stop
-invariant-loop-stop l = Stops l.family l.s 0 0 l.stop × (l.numbers ≡ l.initial.numbers)
+invariant-loop-stop l = Stops l.reader.family l.s 0 0 l.stop × (l.numbers ≡ l.initial.numbers)
 
 abbrev pub decreases-loop-stop : goal.decreases-loop-stop
 decreases-loop-stop l = length l.s - l.stop.at
