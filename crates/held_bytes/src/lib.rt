@@ -4,6 +4,7 @@
 
 mod feeding;
 mod moves;
+mod parts;
 mod pieces;
 
 ghost use Rattle.std.specs.Prelude.{◌≡◌, true, [], length, take};
@@ -12,12 +13,20 @@ ghost use Rattle.stream_rules.specs.Streams.{filled};
 ghost use Rattle.pens.specs.Pens.{laid};
 
 pub use feeding::{feed, served};
+pub use parts::{Moved, feed_places};
 use pens::put_bytes;
 use stream_rules::PLACES;
 use texts::text;
 
 // So many bytes are laid together.
 const BLOCK: usize = 16;
+
+// How many places there are, for a caller that has them as a slice. (Of an array the type says it, and nothing here asks.)
+pub fn places_in(places: &[u8]) -> usize
+    ensures { result ≡ length places.now }
+{
+    places.len()
+}
 
 // Zeros from one of the places on.
 fn clear_from(places: &mut [u8; PLACES], from: usize)

@@ -3,7 +3,7 @@ ghost use Rattle.stream_rules.specs.Streams.{Feeds, Shuts};
 ghost use Rattle.stream.specs.Lent.{left, turned};
 
 use held_bytes::{feed, keep_part, served};
-use stream_rules::{Answer, Outcome, Reader};
+use stream_rules::{Answer, Fed, Outcome, Reader, Turned};
 
 // A call that offers bytes: a frame, or more wanted, or done; refusal 1, then 6, then 5.
 pub fn feed_lent(reader: &mut Reader, offered: &[u8]) -> Answer
@@ -21,4 +21,28 @@ pub fn close_lent(reader: &mut Reader) -> Outcome
     keep_part(&mut reader.held, 0, count);
     reader.closed = 1;
     Ok(())
+}
+
+// A call on a reader that is lent for it, with plain parameters.
+pub fn fed_lent(reader: Reader, offered: &[u8]) -> Fed
+    ensures { Feeds reader offered.now result }
+{
+    let mut kept = reader;
+    let answer = feed_lent(&mut kept, offered);
+    Fed {
+        reader: kept,
+        answer,
+    }
+}
+
+// The close of a reader that is lent for it, with plain parameters.
+pub fn closed_lent(reader: Reader) -> Turned
+    ensures { Shuts reader result }
+{
+    let mut kept = reader;
+    let outcome = close_lent(&mut kept);
+    Turned {
+        reader: kept,
+        outcome,
+    }
 }

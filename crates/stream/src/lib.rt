@@ -4,5 +4,5 @@
 mod lent;
 mod readers;
 
-pub use lent::{close_lent, feed_lent};
+pub use lent::{close_lent, closed_lent, fed_lent, feed_lent};
 pub use readers::{close, feed, fresh_reader};
