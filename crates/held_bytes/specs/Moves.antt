@@ -11,10 +11,15 @@ use Rattle.stream_rules.specs.declared.Reader.{Reader}
 use Rattle.stream_rules.specs.declared.Progress.{Progress}
 use Rattle.stream_rules.specs.declared.Progress.TheVariants.{Done, More, Ready}
 use Rattle.stream_rules.specs.declared.Fed.{Fed}
+use Rattle.stream_rules.specs.declared.Turned.{Turned}
 
 -- A call that left this reader and this answer gives both back.
 abbrev pub fed_at : Reader → Result Progress Refusal → Fed
 fed_at r a = record { reader = r; answer = a }
+
+-- A close that left this reader and this outcome gives both back.
+abbrev pub shut_at : Reader → Result Unit Refusal → Turned
+shut_at r o = record { reader = r; outcome = o }
 
 -- a reader with its places as they are, and so many of them used
 abbrev pub counted_on : Reader → ℕ → ℕ → ℕ → Reader

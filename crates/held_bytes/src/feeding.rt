@@ -1,9 +1,10 @@
-// A call that offers bytes to a lent stream reader, which is altered where it stands; on a refusal it is as it was.
+// The calls on a lent stream reader, which is altered where it stands: one that offers bytes, and the close. On a refusal it
+// is as it was.
 ghost use Rattle.std.specs.Prelude.{◌≡◌};
 ghost use Rattle.stream_rules.specs.Heads.{head, at_close};
 ghost use Rattle.stream_rules.specs.Rule.{look};
-ghost use Rattle.stream_rules.specs.Streams.{held_of, closed_call, Feeds};
-ghost use Rattle.held_bytes.specs.Moves.{fed_at, served, MayHold};
+ghost use Rattle.stream_rules.specs.Streams.{held_of, closed_call, Feeds, Shuts};
+ghost use Rattle.held_bytes.specs.Moves.{fed_at, shut_at, served, MayHold};
 
 use crate::keep_part;
 use crate::moves::{done, hand_out};
@@ -60,4 +61,15 @@ pub fn feed(reader: &mut Reader, offered: &[u8]) -> Answer
         return Err(Refusal::IsClosed);
     }
     drain(reader)
+}
+
+// Closes the reader; refusal 1, then 6. Closing it again changes nothing more.
+pub fn close(reader: &mut Reader) -> Outcome
+    ensures { Shuts reader.old (shut_at reader.new result) }
+{
+    served(reader)?;
+    let used = usize::from(reader.count);
+    keep_part(&mut reader.held, 0, used);
+    reader.closed = 1;
+    Ok(())
 }

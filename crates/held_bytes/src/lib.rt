@@ -12,7 +12,7 @@ ghost use Rattle.rules.specs.Bytes.{part};
 ghost use Rattle.stream_rules.specs.Streams.{filled};
 ghost use Rattle.pens.specs.Pens.{laid};
 
-pub use feeding::{feed, served};
+pub use feeding::{close, feed, served};
 pub use parts::{Moved, feed_places};
 use pens::put_bytes;
 use stream_rules::PLACES;

@@ -1,8 +1,9 @@
-// The stream reader lent by `&mut`: the panel's loop keeps one reader, and each call alters that reader where it stands.
+// The stream reader lent by `&mut`: the panel's loop keeps one reader, and each call alters that reader where it stands. Thin
+// over the calls of `held_bytes` on a lent reader.
 ghost use Rattle.stream_rules.specs.Streams.{Feeds, Shuts};
 ghost use Rattle.stream.specs.Lent.{left, turned};
 
-use held_bytes::{feed, keep_part, served};
+use held_bytes::{close, feed};
 use stream_rules::{Answer, Fed, Outcome, Reader, Turned};
 
 // A call that offers bytes: a frame, or more wanted, or done; refusal 1, then 6, then 5.
@@ -16,11 +17,7 @@ pub fn feed_lent(reader: &mut Reader, offered: &[u8]) -> Answer
 pub fn close_lent(reader: &mut Reader) -> Outcome
     ensures { Shuts reader.old (turned reader.new result) }
 {
-    served(reader)?;
-    let count = usize::from(reader.count);
-    keep_part(&mut reader.held, 0, count);
-    reader.closed = 1;
-    Ok(())
+    close(reader)
 }
 
 // A call on a reader that is lent for it, with plain parameters.

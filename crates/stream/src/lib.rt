@@ -1,4 +1,4 @@
-// The stream reader, by value and lent. `held_bytes` has a call on one that is lent.
+// The stream reader, by value and lent. `held_bytes` has the work of a call and of the close, on one that is lent.
 #![tactic(auto)]
 
 mod lent;

@@ -1,4 +1,4 @@
--- `stream::lent::close_lent` meets its contract: a reader that no call serves is refused, and of another the held bytes stay.
+-- `held_bytes::feeding::close` meets its contract: a reader that no call serves is refused, and of another the held bytes stay.
 -- Assumes nothing.
 use Prim.Native.Nat.{ℕ}
 use Rattle.std.specs.Prelude.{Ok}
@@ -11,7 +11,7 @@ use Rattle.stream_laws.proofs.States.{shut_call}
 use Rattle.stream_laws.proofs.Saying.{shuts}
 use Rattle.held_bytes.proofs.Closing.{held_long}
 use Rattle.held_bytes.proofs.Serving.{is_served, refused_shut}
-use Rattle.stream.proofs.lent.close_lent.Goals as goal
+use Rattle.held_bytes.proofs.feeding.close.Goals as goal
 
 pub returns-in_err-served : goal.returns-in_err-served
 returns-in_err-served c =
@@ -23,7 +23,7 @@ returns c =
     let r = c.args.reader.now in
     let serves = is_served r (sym c.served.ensures ∙ c.in_ok-served.was) in
     let size : length (held_of r) ≡ r.count = held_long r serves.1 (omega arith) in
-    let stays : c.keep_part.new.places ≡ filled (held_of r) = c.keep_part.ensures ∙ ap (λ (n : ℕ). filled (take n r.held)) c.from-count.ensures in
+    let stays : c.keep_part.new.places ≡ filled (held_of r) = c.keep_part.ensures ∙ ap (λ (n : ℕ). filled (take n r.held)) c.from-used.ensures in
     shuts ((λ i. record {
       reader = record {
         family = r.family;
