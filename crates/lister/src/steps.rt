@@ -144,6 +144,38 @@ fn next_command(s: &[u8], from: usize) -> usize
     past_marks(s, from + 1)
 }
 
+// Behind a start with no reply, the next at which one may stand, or that fewer bytes are left for than a packet has: where
+// neither a mark nor a count stands in a count's place, none starts there, nor in the three places behind.
+fn past_uncounted(s: &[u8], from: usize) -> usize
+    requires { from ≤ length s.now }
+    ensures { Passes replies s.now from result }
+{
+    let mut at = from;
+    // four places are passed at once, so that no iterator counts them
+    while PACKET_LENGTH <= s.len() - at {
+        let count = s[at + 3];
+        if count == REPLY_MARK || count == CODE_COUNT || count == REPORT_COUNT {
+            return at;
+        }
+        at += 4;
+    }
+    at
+}
+
+// The next place at which a sentence or a message may stand: none starts at another byte than an opening one.
+fn past_unopened(family: u8, k: Brackets, s: &[u8], from: usize) -> usize
+    requires { IsBracketed family × (k ≡ brackets_of family) × (from ≤ length s.now) }
+    ensures { Passes family s.now from result }
+{
+    let end = s.len();
+    for at in from..end {
+        if s[at] == k.opening {
+            return at;
+        }
+    }
+    end
+}
+
 // A step along commands.
 pub(crate) fn command_step(s: &[u8], at: usize) -> Step
     requires { at + packet_length ≤ length s.now }
@@ -166,7 +198,7 @@ pub(crate) fn reply_step(s: &[u8], at: usize) -> Step
     }
     match reply_length(&s[at..]) {
         Some(length) => Step::Frame(length),
-        None => Step::Over(at + 4),
+        None => Step::Over(past_uncounted(s, at + 4)),
     }
 }
 
@@ -176,7 +208,7 @@ pub(crate) fn bracketed_step(family: u8, k: Brackets, s: &[u8], at: usize) -> St
     ensures { StepsTo family s.now at result }
 {
     if s[at] != k.opening {
-        return Step::Over(at + 1);
+        return Step::Over(past_unopened(family, k, s, at + 1));
     }
     if !may_begin(family, &s[at..]) {
         return Step::Over(at + 1);

@@ -13,7 +13,7 @@ use Rattle.stream_rules.specs.declared.Brackets.{Brackets}
 use Rattle.stream_laws.proofs.Bracketed.{bracketed}
 use Rattle.stream_laws.proofs.Lists.{whole_rest}
 use Rattle.lister.specs.GoodLengths.{good_length, Counts}
-use Rattle.lister.proofs.Skips.{over_byte, over_none, over_run}
+use Rattle.lister.proofs.Skips.{over_byte, over_none, over_run, further}
 use Rattle.lister.proofs.steps.bracketed_step.Goals as goal
 
 -- the run behind `at`
@@ -32,8 +32,8 @@ counted family k its s at there opening n counts = record {
 
 pub returns-then-s-at : goal.returns-then-s-at
 returns-then-s-at c = (
-  omega arith,
-  over_byte _ (bracketed _ c.requires.0.0) _ _ c.requires.2 (λ e. c.if-s-at.true (e ∙ sym (ap (λ (b : Brackets). b.opening) c.requires.1))),
+  omega (arith, c.past_unopened.ensures.on),
+  further _ _ _ _ _ (over_byte _ (bracketed _ c.requires.0.0) _ _ c.requires.2 (λ e. c.if-s-at.true (e ∙ sym (ap (λ (b : Brackets). b.opening) c.requires.1)))) c.past_unopened.ensures,
 )
 
 pub returns-then-not-may_begin : goal.returns-then-not-may_begin
