@@ -1,11 +1,7 @@
 -- The code of a packet, where the bytes are one.
 use Rattle.std.specs.Prelude.{ℕ, List, Option, get_or}
 use Rattle.std.specs.Bool.{then_some}
-use Rattle.rules.specs.Codes.{is_packet, is_ack, is_command}
-
--- with that mark, whatever its code
-unfoldable pub code_in : ℕ → List ℕ → Option ℕ
-code_in mark bs = then_some (is_packet mark bs) (get_or bs 4 0)
+use Rattle.rules.specs.Codes.{is_ack, is_command}
 
 -- an acknowledgement, and a command
 unfoldable pub ack_in : List ℕ → Option ℕ
