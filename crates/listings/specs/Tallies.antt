@@ -3,9 +3,9 @@ use Rattle.std.specs.Prelude.{ℕ, ◌+◌, ◌<◌, ◌≡◌, true, List, [], 
 use Rattle.rules.specs.Answers.{is_family}
 use Rattle.stream_rules.specs.Rule.{Found}
 use Rattle.stream_rules.specs.Lister.{frames, starts_of, fits}
-use Rattle.lines.specs.Lines.{LineTypes}
+use Rattle.lines.specs.Lines.{Types}
 use Rattle.lines.specs.declared.Line.{Line}
-use Rattle.listings.specs.Listing.{frame_line, inside}
+use Rattle.listings.specs.Listing.{frame_line, inside, last_texts}
 use Rattle.listings.specs.declared.table.Tally.{Tally}
 
 -- the place behind the last of some frames; where there is none, a place that is given
@@ -39,7 +39,11 @@ pub record Onward (capture : List ℕ) (start : ℕ) (t : Tally) : Type 0 where
   pub there : t.listed < length (frames t.family capture)
   pub starts : start ≡ get_or (starts_of (frames t.family capture)) t.listed 0
 
--- The line of that frame is laid, and it is tallied.
+-- The line of that frame is laid from the line's front, and it is tallied.
 pub record LaysNext {N : ℕ} (capture : List ℕ) (t : Tally) (line after : Line N) (r : Tally) : Type 0 where
-  pub types : LineTypes (frame_line t.family capture t.listed) line after
+  pub types : Types (frame_line t.family capture t.listed) line.bytes 0 after.bytes after.end
   pub further : r ≡ tallied t.family capture (t.listed + 1)
+
+-- The last line is laid from the line's front.
+abbrev pub LaysLast : {N : ℕ} → List ℕ → Tally → Line N → Line N → Type 0
+LaysLast capture t line after = Types (last_texts t.family capture) line.bytes 0 after.bytes after.end

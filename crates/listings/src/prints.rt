@@ -12,9 +12,10 @@ use stream_rules::LONGEST_LIST;
 
 const LINE: usize = 128;
 
-// Room for every line of a listing, with its line end.
+// Room for every line of a listing, with its line end, and nothing on it yet.
 fn new_line() -> Line<LINE>
-    ensures { line_room ≡ length result.bytes }
+    ensures room { line_room ≡ length result.bytes }
+    ensures empty { result.end ≡ 0 }
 {
     Line::new()
 }

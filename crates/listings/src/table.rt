@@ -2,10 +2,10 @@
 // and its kind; and last how many frames and bytes there are, and how many bytes are in no frame. Each
 // function lays text into a lent line, at the place reached.
 ghost use Rattle.std.specs.Prelude.{◌≡◌};
-ghost use Rattle.lines.specs.Lines.{LineTypes};
+ghost use Rattle.lines.specs.Lines.{Types, LineTypes};
 ghost use Rattle.listings.specs.Parts.{part_texts};
-ghost use Rattle.listings.specs.Listing.{heading_texts, number_texts, last_texts};
-ghost use Rattle.listings.specs.Tallies.{all_tallied, Onward, LaysNext};
+ghost use Rattle.listings.specs.Listing.{heading_texts, number_texts};
+ghost use Rattle.listings.specs.Tallies.{all_tallied, Onward, LaysNext, LaysLast};
 
 use crate::kinds;
 use captures::next_frame;
@@ -25,7 +25,8 @@ pub struct Tally {
 
 // The names of the columns.
 pub(crate) fn heading<const N: usize>(line: &mut Line<N>)
-    ensures { LineTypes heading_texts line.old line.new }
+    requires { line.old.end ≡ 0 }
+    ensures { Types heading_texts line.old.bytes 0 line.new.bytes line.new.end }
 {
     line.text(b"start length skipped kind");
 }
@@ -37,7 +38,8 @@ pub(crate) fn frame_line<const N: usize>(
     start: usize,
     tally: Tally,
 ) -> Tally
-    requires { Onward capture.now start tally }
+    requires empty { line.old.end ≡ 0 }
+    requires onward { Onward capture.now start tally }
     ensures { LaysNext capture.now tally line.old line.new result }
 {
     let frame = next_frame(tally.family, capture, start);
@@ -53,7 +55,8 @@ pub(crate) fn frame_line<const N: usize>(
 
 // The columns before the kind.
 fn numbers<const N: usize>(line: &mut Line<N>, start: usize, long: usize, skipped: usize)
-    ensures { LineTypes (number_texts start long skipped) line.old line.new }
+    requires { line.old.end ≡ 0 }
+    ensures { Types (number_texts start long skipped) line.old.bytes 0 line.new.bytes line.new.end }
 {
     line.number(start as u64);
     line.spaced(long as u64);
@@ -73,8 +76,9 @@ pub fn part_kind<const N: usize>(line: &mut Line<N>, family: u8, frame: &[u8])
 
 // The last line, where all frames are listed.
 pub(crate) fn last_line<const N: usize>(line: &mut Line<N>, capture: &[u8], tally: Tally)
-    requires { tally ≡ all_tallied tally.family capture.now }
-    ensures { LineTypes (last_texts tally.family capture.now) line.old line.new }
+    requires empty { line.old.end ≡ 0 }
+    requires all { tally ≡ all_tallied tally.family capture.now }
+    ensures { LaysLast capture.now tally line.old line.new }
 {
     line.text(b"frames");
     line.spaced(tally.listed as u64);

@@ -33,26 +33,26 @@ module _ (capture : List ℕ) (start : ℕ) (t : Tally) (h : Next capture start 
 
 pub overflow_sub-start : goal.overflow_sub-start
 overflow_sub-start g c =
-    let h = next _ _ _ c.requires in
+    let h = next _ _ _ c.requires.onward in
     omega (arith, h.starts_here, h.place)
 
 pub overflow_add-result : goal.overflow_add-result
-overflow_add-result g c = omega (arith, c.requires.there, room c.args.tally.family _ c.requires.short)
+overflow_add-result g c = omega (arith, c.requires.onward.there, room c.args.tally.family _ c.requires.onward.short)
 
 pub overflow_add-result-2 : goal.overflow_add-result-2
 overflow_add-result-2 g c =
-    let h = next _ _ _ c.requires in
+    let h = next _ _ _ c.requires.onward in
     omega (arith, h.starts_here, its_length _ _ _ h _ c.next_frame-frame.ensures.content, h.stands.inside, h.short)
 
 pub overflow_add-result-3 : goal.overflow_add-result-3
 overflow_add-result-3 g c =
-    let h = next _ _ _ c.requires in
+    let h = next _ _ _ c.requires.onward in
     omega (arith, its_length _ _ _ h _ c.next_frame-frame.ensures.content, h.apart, h.place, h.stands.inside, h.short)
 
 pub returns : goal.returns
 returns g c =
     let a = c.args in
-    let h = next _ _ _ c.requires in
+    let h = next _ _ _ c.requires.onward in
     let f = h.frame in
     let bytes = c.next_frame-frame.result.now in
     let its = its_length _ _ _ h bytes c.next_frame-frame.ensures.content in

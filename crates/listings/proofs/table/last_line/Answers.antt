@@ -18,13 +18,13 @@ told family capture t is typed = rw (is.all, is.bytes) at typed
 
 pub overflow_sub-capture : goal.overflow_sub-capture
 overflow_sub-capture g c =
-    let is = all_told _ _ c.args.tally c.requires in
+    let is = all_told _ _ c.args.tally c.requires.all in
     omega (arith, is.bytes, is.within)
 
 pub returns : goal.returns
 returns g c =
-    told _ _ _ (all_told _ _ c.args.tally c.requires)
-    (c.text.ensures
+    told _ _ _ (all_told _ _ c.args.tally c.requires.all)
+    (rw c.requires.empty at c.text.ensures
     then c.spaced.ensures
     then c.text-2.ensures
     then c.spaced-2.ensures

@@ -1,0 +1,6 @@
+-- `listings::table::heading` meets its contract: the names of the columns, from the line's front.
+-- Assumes nothing.
+use Rattle.listings.proofs.table.heading.Goals as goal
+
+pub returns : goal.returns
+returns g c = rw c.requires at c.text.ensures
