@@ -21,9 +21,10 @@ typed (text ∷ texts) l = typed texts (typed_one text l)
 pub record Types (texts : List (List ℕ)) (line : List ℕ) (at : ℕ) (after : List ℕ) (place : ℕ) : Type 0 where
   pub leaves : (after, place) ≡ typed texts (line, at)
 
--- the same of a line with its place
-abbrev pub LineTypes : {N : ℕ} → List (List ℕ) → Line N → Line N → Type 0
-LineTypes texts line after = Types texts line.bytes line.end after.bytes after.end
+-- the same of a line with its place, over the bytes that are lent to it, which stay the same bytes
+pub record LineTypes (texts : List (List ℕ)) (line after : Line) : Type 0 where
+  pub types : Types texts line.bytes.now line.end after.bytes.now after.end
+  pub same : after.bytes.ghost_name ≡ line.bytes.ghost_name
 
 -- n in the fewest of up to w digits: no leading zero except as the only digit
 unfoldable pub fewest_digits : ℕ → ℕ → List ℕ

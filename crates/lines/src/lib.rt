@@ -4,38 +4,37 @@
 
 mod input;
 
-ghost use Rattle.std.specs.Prelude.{◌≡◌, [], ◌∷◌, length, replicate};
+ghost use Rattle.std.specs.Prelude.{◌≡◌, [], ◌∷◌};
 ghost use Rattle.rules.specs.Numbers.{hex_digits};
 ghost use Rattle.lines.specs.Lines.{LineTypes, decimal_text, spaced_texts, hex_texts, refused_texts};
 
 pub use input::{input_buffer, read_full, read_input};
 
-// A line that is being written: its bytes, and the place where the next text goes.
+// A line that is being written: the bytes lent for it, and the place where the next text goes.
 #[derive(Drop)]
-pub struct Line<const N: usize> {
-    pub bytes: [u8; N],
+pub struct Line<'a> {
+    pub bytes: &'a mut [u8],
     pub end: usize,
 }
 
-impl<const N: usize> Line<N> {
-    // A line with nothing on it.
-    pub fn new() -> Self
-        ensures zeros { result.bytes ≡ replicate N 0 }
+impl<'a> Line<'a> {
+    // A line over these bytes, with nothing on it.
+    pub fn new(bytes: &'a mut [u8]) -> Line<'a>
+        ensures same_reference { result.bytes.ghost_name ≡ bytes.entry.ghost_name }
+        ensures content { result.bytes.now ≡ bytes.old }
         ensures empty { result.end ≡ 0 }
     {
-        Line {
-            bytes: [0; N],
-            end: 0,
-        }
+        Line { bytes, end: 0 }
     }
 
     // The bytes as they are.
-    #[tactic(auto, using(crate::proofs::Typed::one_fits, crate::proofs::Typed::one_not))]
+    #[tactic(auto, using(crate::proofs::Typed::line_fits, crate::proofs::Typed::line_not))]
     pub fn text(&mut self, what: &[u8])
         ensures { LineTypes (what.now ∷ []) self.old self.new }
     {
-        if self.end <= N && what.len() <= N - self.end {
-            pens::put_bytes(&mut self.bytes, self.end, what);
+        let bytes = &mut *self.bytes;
+        if self.end <= bytes.len() && what.len() <= bytes.len() - self.end {
+            pens::put_bytes(bytes, self.end, what);
             self.end += what.len();
         }
     }
@@ -88,20 +87,23 @@ impl<const N: usize> Line<N> {
     // Prints the line up to the place reached, and a line end, in one write.
     pub fn print(&mut self, rt: &impl Print) -> std::io::Result<()> {
         self.text(b"\n");
-        rt.write_all(texts::text(&self.bytes, 0, self.end))
+        let end = self.end;
+        rt.write_all(texts::text(self.bytes, 0, end))
     }
 }
 
 // Prints a text as a line.
 pub fn print_text(rt: &impl Print, what: &[u8]) -> std::io::Result<()> {
-    let mut line = Line::<512>::new();
+    let mut room = [0u8; 512];
+    let mut line = Line::new(&mut room);
     line.text(what);
     line.print(rt)
 }
 
 // Prints a refusal as a line.
 pub fn print_refused(rt: &impl Print, n: u8) -> std::io::Result<()> {
-    let mut line = Line::<32>::new();
+    let mut room = [0u8; 32];
+    let mut line = Line::new(&mut room);
     line.refused(n);
     line.print(rt)
 }

@@ -40,10 +40,10 @@ pub record Onward (capture : List ℕ) (start : ℕ) (t : Tally) : Type 0 where
   pub starts : start ≡ get_or (starts_of (frames t.family capture)) t.listed 0
 
 -- The line of that frame is laid from the line's front, and it is tallied.
-pub record LaysNext {N : ℕ} (capture : List ℕ) (t : Tally) (line after : Line N) (r : Tally) : Type 0 where
-  pub types : Types (frame_line t.family capture t.listed) line.bytes 0 after.bytes after.end
+pub record LaysNext (capture : List ℕ) (t : Tally) (line after : Line) (r : Tally) : Type 0 where
+  pub types : Types (frame_line t.family capture t.listed) line.bytes.now 0 after.bytes.now after.end
   pub further : r ≡ tallied t.family capture (t.listed + 1)
 
 -- The last line is laid from the line's front.
-abbrev pub LaysLast : {N : ℕ} → List ℕ → Tally → Line N → Line N → Type 0
-LaysLast capture t line after = Types (last_texts t.family capture) line.bytes 0 after.bytes after.end
+abbrev pub LaysLast : List ℕ → Tally → Line → Line → Type 0
+LaysLast capture t line after = Types (last_texts t.family capture) line.bytes.now 0 after.bytes.now after.end

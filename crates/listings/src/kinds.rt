@@ -12,7 +12,7 @@ use rules::Kind;
 
 // What kind of frame it is: `ack XX`, `status`, `command XX`, `APAnn`, or the letters of a message.
 #[tactic(auto, unfolding(crate::specs::Kinds::kind_texts))]
-pub fn kind<const N: usize>(line: &mut Line<N>, of: Kind)
+pub fn kind(line: &mut Line<'_>, of: Kind)
     ensures { LineTypes (kind_texts of) line.old line.new }
 {
     match of {
@@ -26,7 +26,7 @@ pub fn kind<const N: usize>(line: &mut Line<N>, of: Kind)
 }
 
 // A word, and a code behind it.
-fn coded<const N: usize>(line: &mut Line<N>, word: &[u8], code: u8)
+fn coded(line: &mut Line<'_>, word: &[u8], code: u8)
     ensures { LineTypes (word.now ∷ hex_digits code ∷ []) line.old line.new }
 {
     line.text(word);
@@ -35,7 +35,7 @@ fn coded<const N: usize>(line: &mut Line<N>, word: &[u8], code: u8)
 
 // A sentence by its number.
 #[tactic(auto, unfolding(crate::specs::Kinds::sentence_texts, rules::specs::Numbers::with_zeros))]
-fn sentence<const N: usize>(line: &mut Line<N>, n: u8)
+fn sentence(line: &mut Line<'_>, n: u8)
     ensures { LineTypes (sentence_texts n) line.old line.new }
 {
     let two = n % 100;
@@ -45,7 +45,7 @@ fn sentence<const N: usize>(line: &mut Line<N>, n: u8)
 
 // The letters that a number holds.
 #[tactic(auto, using(kpa::proofs::LastLetters::few_letters, kpa::proofs::LastLetters::part_letters))]
-fn word<const N: usize>(line: &mut Line<N>, letters: u32)
+fn word(line: &mut Line<'_>, letters: u32)
     ensures { LineTypes (word_letters letters ∷ []) line.old line.new }
 {
     let n = kpa::word_length(letters);
@@ -54,7 +54,7 @@ fn word<const N: usize>(line: &mut Line<N>, letters: u32)
 }
 
 // Those that numbers hold, one behind the other.
-fn words<const N: usize>(line: &mut Line<N>, numbers: &[u32])
+fn words(line: &mut Line<'_>, numbers: &[u32])
     ensures { LineTypes (map word_letters numbers.now) line.old line.new }
 {
     for letters in numbers {

@@ -12,12 +12,11 @@ use stream_rules::LONGEST_LIST;
 
 const LINE: usize = 128;
 
-// Room for every line of a listing, with its line end, and nothing on it yet.
-fn new_line() -> Line<LINE>
-    ensures room { line_room ≡ length result.bytes }
-    ensures empty { result.end ≡ 0 }
+// Room for every line of a listing, with its line end.
+fn line_buffer() -> [u8; LINE]
+    ensures { line_room ≡ length result }
 {
-    Line::new()
+    [0; LINE]
 }
 
 // Room for as many starts as a capture can have frames.
@@ -41,7 +40,8 @@ pub fn print_listing(rt: &impl Print, family: u8, capture: &[u8]) -> io::Result<
 }
 
 fn print_heading(rt: &impl Print) -> io::Result<()> {
-    let mut line = new_line();
+    let mut room = line_buffer();
+    let mut line = Line::new(&mut room);
     heading(&mut line);
     line.print(rt)
 }
@@ -68,7 +68,8 @@ fn print_frame(rt: &impl Print, capture: &[u8], start: usize, tally: Tally) -> i
     requires { Onward capture.now start tally }
     ensures { IfOk result (λ next. next ≡ tallied tally.family capture.now (tally.listed + 1)) }
 {
-    let mut line = new_line();
+    let mut room = line_buffer();
+    let mut line = Line::new(&mut room);
     let further = frame_line(&mut line, capture, start, tally);
     line.print(rt)?;
     Ok(further)
@@ -77,7 +78,8 @@ fn print_frame(rt: &impl Print, capture: &[u8], start: usize, tally: Tally) -> i
 fn print_last(rt: &impl Print, capture: &[u8], tally: Tally) -> io::Result<()>
     requires { tally ≡ all_tallied tally.family capture.now }
 {
-    let mut line = new_line();
+    let mut room = line_buffer();
+    let mut line = Line::new(&mut room);
     last_line(&mut line, capture, tally);
     line.print(rt)
 }

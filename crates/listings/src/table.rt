@@ -24,20 +24,15 @@ pub struct Tally {
 }
 
 // The names of the columns.
-pub(crate) fn heading<const N: usize>(line: &mut Line<N>)
+pub(crate) fn heading(line: &mut Line<'_>)
     requires { line.old.end ≡ 0 }
-    ensures { Types heading_texts line.old.bytes 0 line.new.bytes line.new.end }
+    ensures { Types heading_texts line.old.bytes.now 0 line.new.bytes.now line.new.end }
 {
     line.text(b"start length skipped kind");
 }
 
 // The line of the first frame that is not listed yet, which starts at the place; gives the tally with this frame.
-pub(crate) fn frame_line<const N: usize>(
-    line: &mut Line<N>,
-    capture: &[u8],
-    start: usize,
-    tally: Tally,
-) -> Tally
+pub(crate) fn frame_line(line: &mut Line<'_>, capture: &[u8], start: usize, tally: Tally) -> Tally
     requires empty { line.old.end ≡ 0 }
     requires onward { Onward capture.now start tally }
     ensures { LaysNext capture.now tally line.old line.new result }
@@ -54,9 +49,9 @@ pub(crate) fn frame_line<const N: usize>(
 }
 
 // The columns before the kind.
-fn numbers<const N: usize>(line: &mut Line<N>, start: usize, long: usize, skipped: usize)
+fn numbers(line: &mut Line<'_>, start: usize, long: usize, skipped: usize)
     requires { line.old.end ≡ 0 }
-    ensures { Types (number_texts start long skipped) line.old.bytes 0 line.new.bytes line.new.end }
+    ensures { Types (number_texts start long skipped) line.old.bytes.now 0 line.new.bytes.now line.new.end }
 {
     line.number(start as u64);
     line.spaced(long as u64);
@@ -65,7 +60,7 @@ fn numbers<const N: usize>(line: &mut Line<N>, start: usize, long: usize, skippe
 }
 
 // What kind of frame a part of a capture is, or the refusal of a part that is none.
-pub fn part_kind<const N: usize>(line: &mut Line<N>, family: u8, frame: &[u8])
+pub fn part_kind(line: &mut Line<'_>, family: u8, frame: &[u8])
     ensures { LineTypes (part_texts family frame.now) line.old line.new }
 {
     match frames::read_frame(family, frame) {
@@ -75,7 +70,7 @@ pub fn part_kind<const N: usize>(line: &mut Line<N>, family: u8, frame: &[u8])
 }
 
 // The last line, where all frames are listed.
-pub(crate) fn last_line<const N: usize>(line: &mut Line<N>, capture: &[u8], tally: Tally)
+pub(crate) fn last_line(line: &mut Line<'_>, capture: &[u8], tally: Tally)
     requires empty { line.old.end ≡ 0 }
     requires all { tally ≡ all_tallied tally.family capture.now }
     ensures { LaysLast capture.now tally line.old line.new }

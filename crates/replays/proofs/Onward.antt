@@ -7,7 +7,8 @@ use native.Mathlib.Omega.{arith}
 use lib.IntN.{ℤ}
 use lib.ListN.{length}
 use Rattle.rules.specs.Answers.{values}
-use Rattle.lines.specs.Lines.{typed, Types}
+use Rattle.lines.specs.declared.Line.{Line}
+use Rattle.lines.specs.Lines.{typed, Types, LineTypes}
 use Rattle.replays.specs.declared.values.Form.{Form}
 use Rattle.replays.specs.Texts.{shown_texts}
 
@@ -15,6 +16,9 @@ use Rattle.replays.specs.Texts.{shown_texts}
 pub nothing : {line : List ℕ} {at : ℕ} → Types [] line at line at
 unfolding typed
 nothing = record { leaves = refl }
+
+pub nothing_more : (line : Line) → LineTypes [] line line
+nothing_more line = record { types = nothing; same = refl }
 
 -- where the forms or the values are used up, nothing is shown
 pub no_form : (forms : List Form) (values : List ℤ) → length forms ≡ 0 → shown_texts forms values ≡ []

@@ -110,7 +110,8 @@ fn print_answer(rt: &impl Print, answer: Answer) -> io::Result<()> {
 }
 
 fn print_ready(rt: &impl Print, r: Ready) -> io::Result<()> {
-    let mut line = Line::<512>::new();
+    let mut room = [0u8; 512];
+    let mut line = Line::new(&mut room);
     line.text(b"frame");
     line.spaced(r.taken as u64);
     line.spaced(r.start as u64);
@@ -122,7 +123,8 @@ fn print_ready(rt: &impl Print, r: Ready) -> io::Result<()> {
 }
 
 fn print_count(rt: &impl Print, word: &[u8], n: usize) -> io::Result<()> {
-    let mut line = Line::<64>::new();
+    let mut room = [0u8; 64];
+    let mut line = Line::new(&mut room);
     line.text(word);
     line.spaced(n as u64);
     line.print(rt)

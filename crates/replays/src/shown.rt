@@ -10,7 +10,7 @@ use records::fields_of;
 use rules::{Frame, LONGEST_REPORT};
 
 // The written bytes, or `-` where nothing is written.
-fn written<const N: usize>(line: &mut Line<N>, frame: Frame)
+fn written(line: &mut Line<'_>, frame: Frame)
     ensures { LineTypes (written_texts frame) line.old line.new }
 {
     let mut out = [0u8; LONGEST_REPORT];
@@ -21,7 +21,7 @@ fn written<const N: usize>(line: &mut Line<N>, frame: Frame)
 }
 
 // The kind, the values, and behind a bar what the writer makes of them.
-pub fn frame<const N: usize>(line: &mut Line<N>, frame: Frame)
+pub fn frame(line: &mut Line<'_>, frame: Frame)
     ensures { LineTypes (frame_texts frame) line.old line.new }
 {
     let told = fields_of(frame);

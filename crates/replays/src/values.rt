@@ -43,8 +43,8 @@ pub(crate) fn forms_of(kind: Kind) -> [Form; VALUE_PLACES]
 }
 
 // A question mark behind a space, where it is a question.
-#[tactic(auto, using(crate::proofs::Onward::nothing), unfolding(crate::specs::Texts::asked_texts))]
-pub(crate) fn asked<const N: usize>(line: &mut Line<N>, kind: Kind)
+#[tactic(auto, using(crate::proofs::Onward::nothing_more), unfolding(crate::specs::Texts::asked_texts))]
+pub(crate) fn asked(line: &mut Line<'_>, kind: Kind)
     ensures { LineTypes (asked_texts kind) line.old line.new }
 {
     match kind {
@@ -59,7 +59,7 @@ pub(crate) fn asked<const N: usize>(line: &mut Line<N>, kind: Kind)
 }
 
 // A number behind a space, with a minus where it is below zero.
-fn signed<const N: usize>(line: &mut Line<N>, z: i64)
+fn signed(line: &mut Line<'_>, z: i64)
     ensures { LineTypes (signed_texts z) line.old line.new }
 {
     line.text(if z < 0 {
@@ -78,8 +78,8 @@ fn letter_of(v: i64) -> u8
 }
 
 // A value in the form of its field.
-#[tactic(auto, using(crate::proofs::Onward::nothing), unfolding(crate::specs::Texts::field_texts))]
-fn field<const N: usize>(line: &mut Line<N>, form: Form, v: i64)
+#[tactic(auto, using(crate::proofs::Onward::nothing_more), unfolding(crate::specs::Texts::field_texts))]
+fn field(line: &mut Line<'_>, form: Form, v: i64)
     ensures { LineTypes (field_texts form v) line.old line.new }
 {
     match form {
@@ -95,7 +95,7 @@ fn field<const N: usize>(line: &mut Line<N>, form: Form, v: i64)
 }
 
 // The values one behind the other, each in its form.
-pub(crate) fn shown<const N: usize>(line: &mut Line<N>, forms: &[Form], values: &[i64])
+pub(crate) fn shown(line: &mut Line<'_>, forms: &[Form], values: &[i64])
     ensures { LineTypes (shown_texts forms.now values.now) line.old line.new }
 {
     for (form, v) in forms.iter().zip(values) {

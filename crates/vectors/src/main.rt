@@ -94,7 +94,8 @@ fn print_frame(rt: &impl Print, family: u8, bytes: &[u8]) -> io::Result<()> {
         Ok(frame) => frame,
         Err(e) => return lines::print_refused(rt, u8::from(e)),
     };
-    let mut line = Line::<512>::new();
+    let mut room = [0u8; 512];
+    let mut line = Line::new(&mut room);
     replays::frame(&mut line, frame);
     line.print(rt)
 }

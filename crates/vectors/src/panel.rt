@@ -57,7 +57,8 @@ fn print_report(rt: &impl Print, r: Ready) -> io::Result<()> {
     let Frame::Status(_) = frame else {
         return Ok(());
     };
-    let mut line = Line::<512>::new();
+    let mut room = [0u8; 512];
+    let mut line = Line::new(&mut room);
     line.number(r.start as u64);
     line.text(b" ");
     replays::frame(&mut line, frame);

@@ -25,7 +25,8 @@ fn print_walk(rt: &impl Print, family: u8, capture: &[u8], reports: bool) -> io:
 }
 
 fn print_frame(rt: &impl Print, family: u8, frame: &[u8], place: usize) -> io::Result<()> {
-    let mut line = Line::<128>::new();
+    let mut room = [0u8; 128];
+    let mut line = Line::new(&mut room);
     line.number(place as u64);
     line.spaced(frame.len() as u64);
     line.text(b" ");

@@ -1,8 +1,8 @@
 -- The loop of `lines::Line::hex`: what is left to be typed makes the line that all bytes make.
 use Rattle.std.proofs.Common.{drop}
-use Rattle.lines.specs.Lines.{typed, hex_texts}
-use Rattle.lines.proofs.Typed.{Left}
+use Rattle.lines.specs.Lines.{hex_texts}
+use Rattle.lines.proofs.Typed.{LineLeft}
 use Rattle.lines.proofs.Line.hex.Given as goal
 
 abbrev pub invariant-loop-b : goal.invariant-loop-b
-invariant-loop-b g l = Left (hex_texts (drop l.b-index l.bytes)) l.self.bytes l.self.end (typed (hex_texts l.bytes) (l.initial.self.bytes, l.initial.self.end))
+invariant-loop-b l = LineLeft (hex_texts (drop l.b-index l.bytes)) l.self (hex_texts l.bytes) l.initial.self

@@ -2,10 +2,8 @@
 -- Assumes nothing.
 use Rattle.std.proofs.Common.{drop, map}
 use Rattle.rules.specs.Messages.{word_letters}
-use Rattle.lines.specs.Lines.{typed}
-use Rattle.lines.proofs.Typed.{Left}
+use Rattle.lines.proofs.Typed.{LineLeft}
 use Rattle.listings.proofs.kinds.words.Given as goal
 
 abbrev pub invariant-loop-letters : goal.invariant-loop-letters
-invariant-loop-letters g l =
-    Left (map word_letters (drop l.letters-index l.numbers)) l.line.bytes l.line.end (typed (map word_letters l.numbers) (l.initial.line.bytes, l.initial.line.end))
+invariant-loop-letters l = LineLeft (map word_letters (drop l.letters-index l.numbers)) l.line (map word_letters l.numbers) l.initial.line

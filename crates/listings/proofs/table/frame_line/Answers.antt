@@ -32,25 +32,25 @@ module _ (capture : List ℕ) (start : ℕ) (t : Tally) (h : Next capture start 
   its_length = ap length its_bytes ∙ h.stands.size
 
 pub overflow_sub-start : goal.overflow_sub-start
-overflow_sub-start g c =
+overflow_sub-start c =
     let h = next _ _ _ c.requires.onward in
     omega (arith, h.starts_here, h.place)
 
 pub overflow_add-result : goal.overflow_add-result
-overflow_add-result g c = omega (arith, c.requires.onward.there, room c.args.tally.family _ c.requires.onward.short)
+overflow_add-result c = omega (arith, c.requires.onward.there, room c.args.tally.family _ c.requires.onward.short)
 
 pub overflow_add-result-2 : goal.overflow_add-result-2
-overflow_add-result-2 g c =
+overflow_add-result-2 c =
     let h = next _ _ _ c.requires.onward in
     omega (arith, h.starts_here, its_length _ _ _ h _ c.next_frame-frame.ensures.content, h.stands.inside, h.short)
 
 pub overflow_add-result-3 : goal.overflow_add-result-3
-overflow_add-result-3 g c =
+overflow_add-result-3 c =
     let h = next _ _ _ c.requires.onward in
     omega (arith, its_length _ _ _ h _ c.next_frame-frame.ensures.content, h.apart, h.place, h.stands.inside, h.short)
 
 pub returns : goal.returns
-returns g c =
+returns c =
     let a = c.args in
     let h = next _ _ _ c.requires.onward in
     let f = h.frame in
@@ -63,7 +63,7 @@ returns g c =
           its
           (omega (arith, h.starts_here, h.place))
           (ap (read_one a.tally.family) (its_bytes _ _ _ h bytes c.next_frame-frame.ensures.content) ∙ h.stands.read)
-          (c.numbers.ensures then c.part_kind.ensures));
+          (c.numbers.ensures then c.part_kind.ensures.types));
       further = ap₂
           (λ (end inside : ℕ). record { family = a.tally.family; listed = a.tally.listed + 1; end = end; inside = inside })
           (omega (arith, h.starts_here, its, h.end))

@@ -3,4 +3,4 @@
 use Rattle.listings.proofs.table.heading.Goals as goal
 
 pub returns : goal.returns
-returns g c = rw c.requires at c.text.ensures
+returns c = rw c.requires at c.text.ensures.types

@@ -17,16 +17,16 @@ told : (family : ℕ) (capture : List ℕ) (t : Tally) {line after : List ℕ} {
 told family capture t is typed = rw (is.all, is.bytes) at typed
 
 pub overflow_sub-capture : goal.overflow_sub-capture
-overflow_sub-capture g c =
+overflow_sub-capture c =
     let is = all_told _ _ c.args.tally c.requires.all in
     omega (arith, is.bytes, is.within)
 
 pub returns : goal.returns
-returns g c =
+returns c =
     told _ _ _ (all_told _ _ c.args.tally c.requires.all)
-    (rw c.requires.empty at c.text.ensures
-    then c.spaced.ensures
-    then c.text-2.ensures
-    then c.spaced-2.ensures
-    then c.text-3.ensures
-    then c.spaced-3.ensures)
+    (rw c.requires.empty at c.text.ensures.types
+    then c.spaced.ensures.types
+    then c.text-2.ensures.types
+    then c.spaced-2.ensures.types
+    then c.text-3.ensures.types
+    then c.spaced-3.ensures.types)

@@ -4,4 +4,4 @@ use Rattle.lines.proofs.Typed.{◌then◌}
 use Rattle.listings.proofs.table.numbers.Goals as goal
 
 pub returns : goal.returns
-returns g c = rw c.requires at c.number.ensures then c.spaced.ensures then c.spaced-2.ensures then c.text.ensures
+returns c = rw c.requires at c.number.ensures.types then c.spaced.ensures.types then c.spaced-2.ensures.types then c.text.ensures.types

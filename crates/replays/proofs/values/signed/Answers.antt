@@ -6,7 +6,7 @@ use lib.Signed.{lt_z}
 use mir.ValLaws.{to_z-of_z}
 use Rattle.rules.specs.Bytes.{ascii}
 use Rattle.lines.specs.Lines.{decimal_text}
-use Rattle.lines.proofs.Typed.{◌then◌}
+use Rattle.lines.proofs.Typed.{◌next◌}
 use Rattle.replays.specs.Texts.{signed_texts}
 use Rattle.replays.proofs.values.signed.Goals as goal
 use Rattle.replays.proofs.values.signed.Goals.{then-z-lt0, else-z-lt0}
@@ -22,9 +22,9 @@ not_below (pos n) e = refl
 not_below (negsuc n) e = cc
 
 pub returns : goal.returns
-returns g c =
+returns c =
     let read = to_z-of_z w64 c.args.z c.ranges.z in
-    let typed = c.text.ensures then rw (c.unsigned_abs.ensures.value, read) at c.number.ensures in
+    let typed = c.text.ensures next rw (c.unsigned_abs.ensures.value, read) at c.number.ensures in
     elim c.if-z-lt0.branch [
       | then-z-lt0 w ↦ rw (below c.args.z (rw read at w.if-z-lt0.true)) (rw (w.text-is, w.as_slice.ensures) at typed)
       | else-z-lt0 w ↦ rw (not_below c.args.z (rw read at w.if-z-lt0.false)) (rw (w.text-is, w.as_slice-else-z-lt0.ensures) at typed)
