@@ -10,6 +10,8 @@
 mod panel;
 mod walks;
 
+ghost use Rattle.std.specs.Prelude.{◌≡◌, ◌*◌, ◌≤◌, IfSome, length};
+
 use lines::Line;
 use listings::print_listing;
 use replays::print_replay;
@@ -74,7 +76,10 @@ fn print_hex(rt: &impl Print, family: u8, digits: &[u8]) -> io::Result<()> {
 
 // The bytes that the digits give, two for each; none where one is no digit, a digit is left over, or there are more bytes
 // than the room has.
-fn from_hex<'a>(digits: &[u8], room: &'a mut [u8]) -> Option<&'a [u8]> {
+fn from_hex<'a>(digits: &[u8], room: &'a mut [u8]) -> Option<&'a [u8]>
+    ensures pairs { IfSome result (λ bytes. 2 * length bytes.now ≡ length digits.now) }
+    ensures fits { IfSome result (λ bytes. length bytes.now ≤ length room.old) }
+{
     let pairs = digits.chunks_exact(2);
     let count = pairs.len();
     if !pairs.remainder().is_empty() || room.len() < count {

@@ -1,0 +1,2 @@
+-- What the steps of a run come to.
+pub mod Courses
