@@ -37,19 +37,19 @@ none_left c = record { left = []; ends = c.ends - 1; closes = (c.ends == endings
 abbrev pub after_none : Course → Course
 after_none c = cond (nat_lt 0 (length c.left)) (piece_taken c) (none_left c)
 
--- With a frame the bytes taken are no longer left.
-abbrev pub after : Course → Result Progress Refusal → Course
-after c (Ok (Ready x)) = record { left = drop x.taken c.left; ends = c.ends; closes = false }
-after c (Ok (More n)) = after_none c
-after c (Ok (Done n)) = after_none c
-after c (Err e) = after_none c
-
 -- the frame that an answer hands out, if it does
 abbrev pub ready_in : Result Progress Refusal → Option ReadyType.Ready
 ready_in (Ok (Ready x)) = Some x
 ready_in (Ok (More n)) = None
 ready_in (Ok (Done n)) = None
 ready_in (Err e) = None
+
+-- With a frame the bytes taken are no longer left.
+abbrev pub after : Course → Result Progress Refusal → Course
+after c (Ok (Ready x)) = record { left = drop x.taken c.left; ends = c.ends; closes = false }
+after c (Ok (More n)) = after_none c
+after c (Ok (Done n)) = after_none c
+after c (Err e) = after_none c
 
 -- once the reader is closed
 abbrev pub closed : Course → Course

@@ -1,4 +1,5 @@
--- `vectors::panel::print_offered` ends: with each frame fewer bytes are held and left to offer.
+-- `vectors::panel::print_offered` goes on with the run until all bytes are offered, and ends: with each frame fewer bytes are held
+-- and left to offer.
 -- Assumes nothing.
 use Rattle.std.proofs.Common.{Ok, subst, length, ◌≡◌, ℕ, ◌≤◌, Bool, true, false, not, cond, List, sym, refl, ap, ◌∙◌, arith, length-take, length-drop}
 use borrow.Author.Tests.{leb-true}
