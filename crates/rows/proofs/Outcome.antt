@@ -20,7 +20,7 @@ use Rattle.rows.proofs.Lengths.{row_fits, room}
 use Rattle.rows.specs.ReadRows.{ReadsRowAt}
 
 -- no refusal has the number 0
-refused_some : (e : Refusal) → number_for e ≡ 0 → ⊥
+pub refused_some : (e : Refusal) → number_for e ≡ 0 → ⊥
 refused_some NoFamily z = omega arith
 refused_some NoCode z = omega arith
 refused_some NoRecord z = omega arith

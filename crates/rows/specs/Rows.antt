@@ -3,7 +3,7 @@
 use Rattle.std.specs.Prelude.{ℕ, ◌+◌, ◌%◌, ◌^◌, ◌≡◌, cond, List, [], ◌∷◌, ◌++◌, eqb, leb, ℤ, pos, length, drop}
 use Rattle.rules.specs.Answers.{Read}
 use Rattle.rules.specs.declared.Refusal.{Refusal}
-use Rattle.stream_rules.specs.Streams.{said_to_turn}
+use Rattle.stream_rules.specs.Streams.{said_to_feed, said_to_turn}
 use Rattle.stream_rules.specs.declared.Progress.{Progress}
 use Rattle.stream_rules.specs.declared.Progress.TheVariants.{Done, More, Ready}
 use Rattle.rules.specs.Refusals.{no_room}
@@ -146,3 +146,20 @@ RowIn numbers result r = LaysRow r numbers.entry.now (outcome_number result) num
 
 abbrev pub AnswerIn : LentNumbers → Result Unit Refusal → Says → List ℤ → Type 0
 AnswerIn numbers result answer r = Lays answer r numbers.entry.now (outcome_number result) numbers.exit.now
+
+-- The same of refusals of any type, by the number of each: what an answer says, its row, and the number of an outcome. Of the
+-- eight refusals these are the three above, proofs/AnyRefusals.antt.
+abbrev pub said_by : {E : Type 0} → (E → ℕ) → Result Progress E → Says
+said_by number (Ok progress) = said_to_feed (Ok progress)
+said_by number (Err e) = no (number e)
+
+abbrev pub row_by : {E : Type 0} → Result Progress E → List ℤ
+row_by (Ok progress) = row_fed (Ok progress)
+row_by (Err e) = []
+
+abbrev pub number_by : {E : Type 0} → (E → ℕ) → Result Unit E → ℕ
+number_by number (Ok u) = 0
+number_by number (Err e) = number e
+
+abbrev pub AnswerBy : {E : Type 0} → (E → ℕ) → LentNumbers → Result Unit E → Result Progress E → Type 0
+AnswerBy number numbers result answer = Lays (said_by number answer) (row_by answer) numbers.entry.now (number_by number result) numbers.exit.now

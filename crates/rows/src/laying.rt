@@ -1,14 +1,14 @@
 // A frame, and what a call answers, as a row of numbers laid at the front of lent memory. The values
 // of a frame stand behind the row's first six numbers.
-ghost use Rattle.std.specs.Prelude.{◌≡◌, ◌++◌, ℤ, map, pos, length};
+ghost use Rattle.std.specs.Prelude.{◌≡◌, ◌++◌, ℕ, ℤ, Ok, map, pos, length};
 ghost use Rattle.rules.specs.Answers.{said};
-ghost use Rattle.stream_rules.specs.Streams.{said_to_feed};
-ghost use Rattle.rows.specs.Rows.{kind_row, code_of, counted, row, row_fed, row_at, RowIn, AnswerIn};
+ghost use Rattle.rules.specs.Refusals.{number_for, no_room};
+ghost use Rattle.rows.specs.Rows.{kind_row, code_of, counted, row, row_fed, row_at, RowIn, AnswerIn, AnswerBy};
 ghost use Rattle.rows.specs.Headings.{heading_of, heading_without};
 
 use records::fields_of;
 use rules::{Frame, Kind, Reading, Refusal, STATUS_VALUES};
-use stream_rules::{Answer, Outcome, Progress};
+use stream_rules::{Outcome, Progress};
 
 // The first number of a row: what kind of frame, or that more is wanted, or that all is done. They are numbers and
 // not an enum, since a C program has them from c/amp.h, and passes them too.
@@ -116,6 +116,31 @@ impl RowNumber for i64 {
     }
 }
 
+// Why a call is refused, as its caller has it: each refusal has a number, and one of them is for a row without room. They
+// are the eight that document 01 numbers, or any bytes.
+pub trait Refuses: Copy {
+    ghost number: { Self → ℕ };
+
+    fn no_room() -> Self
+        ensures { number result ≡ no_room };
+}
+
+impl Refuses for Refusal {
+    ghost number = { number_for };
+
+    fn no_room() -> Refusal {
+        Refusal::NoRoom
+    }
+}
+
+impl Refuses for u8 {
+    ghost number = { λ n. n };
+
+    fn no_room() -> u8 {
+        u8::from(Refusal::NoRoom)
+    }
+}
+
 // Values in their places, of which there are as many.
 fn put<T: RowNumber>(places: &mut [i64], values: &[T])
     requires { length places.old ≡ length values.now }
@@ -190,12 +215,12 @@ fn lay_frame(frame: Frame, arrival: Arrival, length: usize, numbers: &mut [i64])
     lay_values(heading, &told.values[..told.count], numbers)
 }
 
-// What a call on a stream answered.
-pub fn lay_answer(answer: Answer, numbers: &mut [i64]) -> Outcome
-    ensures { AnswerIn numbers result (said_to_feed answer) (row_fed answer) }
+// What a call on a stream came to, with the same refusal.
+fn lay_progress(progress: Progress, numbers: &mut [i64]) -> Outcome
+    ensures { RowIn numbers result (row_fed (Ok progress)) }
 {
-    match answer {
-        Ok(Progress::Ready(ready)) => {
+    match progress {
+        Progress::Ready(ready) => {
             let arrival = Arrival {
                 taken: ready.taken,
                 start: ready.start,
@@ -203,8 +228,20 @@ pub fn lay_answer(answer: Answer, numbers: &mut [i64]) -> Outcome
             };
             lay_frame(ready.frame, arrival, ready.length, numbers)
         }
-        Ok(Progress::More(taken)) => lay_heading(Heading::without_frame(MORE_ROW, taken), numbers),
-        Ok(Progress::Done(taken)) => lay_heading(Heading::without_frame(DONE_ROW, taken), numbers),
+        Progress::More(taken) => lay_heading(Heading::without_frame(MORE_ROW, taken), numbers),
+        Progress::Done(taken) => lay_heading(Heading::without_frame(DONE_ROW, taken), numbers),
+    }
+}
+
+// What a call on a stream answered, with refusals of any type: the answer's own, else that of no room.
+pub fn lay_answer<E: Refuses>(answer: Result<Progress, E>, numbers: &mut [i64]) -> Result<(), E>
+    ensures { AnswerBy E.number numbers result answer }
+{
+    match answer {
+        Ok(progress) => match lay_progress(progress, numbers) {
+            Ok(()) => Ok(()),
+            Err(_) => Err(E::no_room()),
+        },
         Err(refusal) => Err(refusal),
     }
 }

@@ -6,6 +6,6 @@ mod reading;
 
 pub use laying::{
     ACK_ROW, Arrival, COMMAND_ROW, Heading, LONGEST_ROW, MORE_ROW, QUESTION_ROW, RESPONSE_ROW,
-    SENTENCE_ROW, STATUS_ROW, lay_answer, lay_heading,
+    Refuses, SENTENCE_ROW, STATUS_ROW, lay_answer, lay_heading,
 };
 pub use reading::read_row;
