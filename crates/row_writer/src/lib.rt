@@ -79,15 +79,16 @@ fn byte_code(code: u32) -> Result<u8, Refusal>
 fn frame_given(kind: u32, code: u32, values: &[i64]) -> Reading
     ensures { result ≡ given_or_refused kind code values.now }
 {
-    match kind {
-        ACK_ROW => Ok(Frame::Ack(byte_code(code)?)),
-        STATUS_ROW if is_status_row(values) => Ok(Frame::Status(status_from(values))),
-        COMMAND_ROW => Ok(Frame::Command(byte_code(code)?)),
-        SENTENCE_ROW => sentence_given(code, values).ok_or(Refusal::NoRecord),
-        QUESTION_ROW => Ok(Frame::Message(Message::Question(code))),
-        RESPONSE_ROW => response_given(code, values).ok_or(Refusal::NoRecord),
-        _ => Err(Refusal::NoRecord),
-    }
+    let given = match kind {
+        ACK_ROW => Some(Frame::Ack(byte_code(code)?)),
+        STATUS_ROW if is_status_row(values) => Some(Frame::Status(status_from(values))),
+        COMMAND_ROW => Some(Frame::Command(byte_code(code)?)),
+        SENTENCE_ROW => sentence_given(code, values),
+        QUESTION_ROW => Some(Frame::Message(Message::Question(code))),
+        RESPONSE_ROW => response_given(code, values),
+        _ => None,
+    };
+    given.ok_or(Refusal::NoRecord)
 }
 
 // The frame that the numbers give, with the same refusals, and then those of its writer.

@@ -146,7 +146,7 @@ fn packet_stop(family: u8, s: &[u8], from: usize, far: usize) -> Stop
                 at += 4; // its count is no mark
                 continue;
             }
-            Seen::Undecided => break, // how far the starts before it reach is told too
+            Seen::Undecided => break,
             Seen::Bad(_) => {}
         }
         at = past_unmarked(family, mark, s, at + passed_with(s.len() - at));
