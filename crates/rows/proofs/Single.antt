@@ -12,7 +12,8 @@ use Rattle.rules.specs.declared.Refusal.{Refusal}
 use Rattle.rules.specs.declared.Refusal.TheVariants.{NoFamily, NoCode, NoRecord, NoRoom, IsClosed, HoldsTooMuch, TooLong, NotGood}
 use Rattle.rules.specs.Answers.{Says}
 use Rattle.frame_laws.proofs.Single.{one_answer}
-use Rattle.rows.specs.Rows.{outcome_number, LaysRow, Lays}
+use Rattle.stream_rules.specs.declared.Progress.{Progress}
+use Rattle.rows.specs.Rows.{outcome_number, LaysRow, Lays, said_by, row_by, number_by}
 
 pub lays_single : (answer : Says) (r numbers : List ℤ) (a b : ℕ) (x y : List ℤ) → Lays answer r numbers a x → Lays answer r numbers b y
     → (a ≡ b) × (x ≡ y)
@@ -25,6 +26,12 @@ pub lays_row_single : (r numbers : List ℤ) (a b : ℕ) (x y : List ℤ) → La
 lays_row_single r numbers a b x y p q =
     let e = one_answer p.answers q.answers in
     (e, p.content ∙ rw e (sym q.content))
+
+-- and of an answer with refusals of any type, whose number is told
+pub answer_single : {E : Type 0} (number : E → ℕ) (answer : Result Progress E) (numbers : List ℤ) (a b : Result Unit E) (x y : List ℤ)
+    → Lays (said_by number answer) (row_by answer) numbers (number_by number a) x → Lays (said_by number answer) (row_by answer) numbers (number_by number b) y
+    → (number_by number a ≡ number_by number b) × (x ≡ y)
+answer_single number answer numbers a b x y p q = lays_single (said_by number answer) (row_by answer) numbers (number_by number a) (number_by number b) x y p q
 
 -- the outcome of a number
 outcome_of : ℕ → Result Unit Refusal
