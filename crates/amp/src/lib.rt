@@ -85,6 +85,7 @@ pub fn amp_read(family: u32, bytes: &[u8], numbers: &mut [i64]) -> u32
 }
 
 // The starts of the frames in a capture, and how many there are.
+#[tactic(auto, using(crate::proofs::Families::listed_byte, crate::proofs::Families::left_byte))]
 pub fn amp_list(family: u32, capture: &[u8], starts: &mut [u32], count: &mut usize) -> u32
     ensures { ListsStarts family capture.now starts.old count.old result starts.new count.new }
 {
