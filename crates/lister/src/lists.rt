@@ -8,8 +8,8 @@ ghost use Rattle.lister.specs.Fills.{Fills};
 ghost use Rattle.lister.specs.GoodLengths.{StepsTo};
 
 use crate::steps::{Step, bracketed_step, command_step, reply_step};
-use rules::{COMMANDS, REPLIES, Refusal};
-use starts::{brackets_of, is_family, shortest_frame};
+use rules::{COMMANDS, MESSAGES, REPLIES, Refusal};
+use starts::{is_family, shortest_frame};
 use stream_rules::{LONGEST_CAPTURE, Listed};
 
 // Notes a start in its place, where the list has that place.
@@ -58,15 +58,19 @@ fn fill_starts(family: u8, capture: &[u8], starts: &mut [u32]) -> usize
     match family {
         REPLIES => fill(family, capture, starts, |at| reply_step(capture, at)),
         COMMANDS => fill(family, capture, starts, |at| command_step(capture, at)),
-        _ => {
-            let k = brackets_of(family);
-            fill(
-                family,
-                capture,
-                starts,
-                |at| bracketed_step(family, k, capture, at),
-            )
-        }
+        // messages and sentences have a walk each, with the brackets of that family
+        MESSAGES => fill(
+            family,
+            capture,
+            starts,
+            |at| bracketed_step(MESSAGES, capture, at),
+        ),
+        _ => fill(
+            family,
+            capture,
+            starts,
+            |at| bracketed_step(family, capture, at),
+        ),
     }
 }
 

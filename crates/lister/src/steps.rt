@@ -13,7 +13,7 @@ use rules::{
     SHORTEST_SENTENCE,
 };
 use spe::{ends_report, is_ack, is_command, is_status, report_length};
-use starts::inner_bytes;
+use starts::{brackets_of, inner_bytes};
 use stream_rules::Brackets;
 use texts::text;
 
@@ -100,6 +100,7 @@ fn says_good(family: u8, s: &[u8], n: usize) -> bool
 }
 
 // How long the good frame at the head is, with n inner bytes behind its first byte.
+#[inline(always)]
 fn bracketed_length(family: u8, k: Brackets, s: &[u8], n: usize) -> Option<usize>
     requires { IsBracketed family × (k ≡ brackets_of family) × Counts family n s.now }
     ensures { result ≡ good_length family s.now }
@@ -163,13 +164,15 @@ fn past_uncounted(s: &[u8], from: usize) -> usize
 }
 
 // The next place at which a sentence or a message may stand: none starts at another byte than an opening one.
-fn past_unopened(family: u8, k: Brackets, s: &[u8], from: usize) -> usize
-    requires { IsBracketed family × (k ≡ brackets_of family) × (from ≤ length s.now) }
+#[inline(always)]
+fn past_unopened(family: u8, s: &[u8], from: usize) -> usize
+    requires { IsBracketed family × (from ≤ length s.now) }
     ensures { Passes family s.now from result }
 {
+    let opening = brackets_of(family).opening;
     let end = s.len();
     for at in from..end {
-        if s[at] == k.opening {
+        if s[at] == opening {
             return at;
         }
     }
@@ -203,12 +206,14 @@ pub(crate) fn reply_step(s: &[u8], at: usize) -> Step
 }
 
 // A step along sentences or messages. None starts at an inner byte.
-pub(crate) fn bracketed_step(family: u8, k: Brackets, s: &[u8], at: usize) -> Step
-    requires { IsBracketed family × (k ≡ brackets_of family) × (at < length s.now) }
+#[inline(always)]
+pub(crate) fn bracketed_step(family: u8, s: &[u8], at: usize) -> Step
+    requires { IsBracketed family × (at < length s.now) }
     ensures { StepsTo family s.now at result }
 {
+    let k = brackets_of(family);
     if s[at] != k.opening {
-        return Step::Over(past_unopened(family, k, s, at + 1));
+        return Step::Over(past_unopened(family, s, at + 1));
     }
     if !may_begin(family, &s[at..]) {
         return Step::Over(at + 1);

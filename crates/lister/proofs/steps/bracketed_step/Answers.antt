@@ -33,26 +33,26 @@ counted family k its s at there opening n counts = record {
 pub returns-then-s-at : goal.returns-then-s-at
 returns-then-s-at c = (
   omega (arith, c.past_unopened.ensures.on),
-  further _ _ _ _ _ (over_byte _ (bracketed _ c.requires.0.0) _ _ c.requires.2 (λ e. c.if-s-at.true (e ∙ sym (ap (λ (b : Brackets). b.opening) c.requires.1)))) c.past_unopened.ensures,
+  further _ _ _ _ _ (over_byte _ (bracketed _ c.requires.0.0) _ _ c.requires.1 (λ e. c.if-s-at.true (e ∙ sym (ap (λ (b : Brackets). b.opening) c.brackets_of-k.ensures)))) c.past_unopened.ensures,
 )
 
 pub returns-then-not-may_begin : goal.returns-then-not-may_begin
 returns-then-not-may_begin c = (
   omega arith,
-  over_none _ _ _ c.requires.2 (c.may_begin.ensures c.if-not-may_begin.true ∙ ap (good_length c.args.family) (whole_rest c.args.s.now c.args.at)),
+  over_none _ _ _ c.requires.1 (c.may_begin.ensures c.if-not-may_begin.true ∙ ap (good_length c.args.family) (whole_rest c.args.s.now c.args.at)),
 )
 
 pub bracketed_length-requires : goal.bracketed_length-requires
 bracketed_length-requires c = (
   c.requires.0,
-  c.requires.1,
-  rw (whole_rest c.args.s.now c.args.at) (counted _ _ c.requires.1 c.args.s.now c.args.at c.requires.2 c.if-s-at.false _ c.inner_bytes-run.ensures),
+  c.brackets_of-k.ensures,
+  rw (whole_rest c.args.s.now c.args.at) (counted _ _ c.brackets_of-k.ensures c.args.s.now c.args.at c.requires.1 c.if-s-at.false _ c.inner_bytes-run.ensures),
 )
 
 pub returns-in-None : goal.returns-in-None
 returns-in-None c =
-    let run = counted _ _ c.requires.1 c.args.s.now c.args.at c.requires.2 c.if-s-at.false _ c.inner_bytes-run.ensures in (
+    let run = counted _ _ c.brackets_of-k.ensures c.args.s.now c.args.at c.requires.1 c.if-s-at.false _ c.inner_bytes-run.ensures in (
       omega arith,
-      over_run _ (bracketed _ c.requires.0.0) _ _ c.requires.2 c.inner_bytes-run.result (omega (arith, run.counted))
+      over_run _ (bracketed _ c.requires.0.0) _ _ c.requires.1 c.inner_bytes-run.result (omega (arith, run.counted))
           (c.in-None.ensures ∙ ap (good_length c.args.family) (whole_rest c.args.s.now c.args.at)),
     )
