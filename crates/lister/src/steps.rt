@@ -201,7 +201,12 @@ pub(crate) fn reply_step(s: &[u8], at: usize) -> Step
     }
     match reply_length(&s[at..]) {
         Some(length) => Step::Frame(length),
-        None => Step::Over(past_uncounted(s, at + 4)),
+        None => {
+            if s[at + 3] == CODE_COUNT || s[at + 3] == REPORT_COUNT {
+                return Step::Over(at + 4);
+            }
+            Step::Over(past_uncounted(s, at + 4))
+        }
     }
 }
 
