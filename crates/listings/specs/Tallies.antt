@@ -39,11 +39,17 @@ pub record Onward (capture : List ℕ) (start : ℕ) (t : Tally) : Type 0 where
   pub there : t.listed < length (frames t.family capture)
   pub starts : start ≡ get_or (starts_of (frames t.family capture)) t.listed 0
 
--- The line of that frame is laid from the line's front, and it is tallied.
+-- Texts are laid from a line's front, over the bytes that are lent to it, which stay the same bytes.
+pub record LaysLine (texts : List (List ℕ)) (line after : Line) : Type 0 where
+  pub types : Types texts line.bytes.now 0 after.bytes.now after.end
+  pub same : after.bytes.ghost_name ≡ line.bytes.ghost_name
+
+-- The line of that frame is laid so, and it is tallied.
 pub record LaysNext (capture : List ℕ) (t : Tally) (line after : Line) (r : Tally) : Type 0 where
   pub types : Types (frame_line t.family capture t.listed) line.bytes.now 0 after.bytes.now after.end
+  pub same : after.bytes.ghost_name ≡ line.bytes.ghost_name
   pub further : r ≡ tallied t.family capture (t.listed + 1)
 
--- The last line is laid from the line's front.
+-- The last line is laid so.
 abbrev pub LaysLast : List ℕ → Tally → Line → Line → Type 0
-LaysLast capture t line after = Types (last_texts t.family capture) line.bytes.now 0 after.bytes.now after.end
+LaysLast capture t line after = LaysLine (last_texts t.family capture) line after

@@ -2,10 +2,10 @@
 // and its kind; and last how many frames and bytes there are, and how many bytes are in no frame. Each
 // function lays text into a lent line, at the place reached.
 ghost use Rattle.std.specs.Prelude.{◌≡◌};
-ghost use Rattle.lines.specs.Lines.{Types, LineTypes};
+ghost use Rattle.lines.specs.Lines.{LineTypes};
 ghost use Rattle.listings.specs.Parts.{part_texts};
 ghost use Rattle.listings.specs.Listing.{heading_texts, number_texts};
-ghost use Rattle.listings.specs.Tallies.{all_tallied, Onward, LaysNext, LaysLast};
+ghost use Rattle.listings.specs.Tallies.{all_tallied, Onward, LaysLine, LaysNext, LaysLast};
 
 use crate::kinds;
 use captures::next_frame;
@@ -26,7 +26,7 @@ pub struct Tally {
 // The names of the columns.
 pub(crate) fn heading(line: &mut Line<'_>)
     requires { line.old.end ≡ 0 }
-    ensures { Types heading_texts line.old.bytes.now 0 line.new.bytes.now line.new.end }
+    ensures { LaysLine heading_texts line.old line.new }
 {
     line.text(b"start length skipped kind");
 }
@@ -51,7 +51,7 @@ pub(crate) fn frame_line(line: &mut Line<'_>, capture: &[u8], start: usize, tall
 // The columns before the kind.
 fn numbers(line: &mut Line<'_>, start: usize, long: usize, skipped: usize)
     requires { line.old.end ≡ 0 }
-    ensures { Types (number_texts start long skipped) line.old.bytes.now 0 line.new.bytes.now line.new.end }
+    ensures { LaysLine (number_texts start long skipped) line.old line.new }
 {
     line.number(start as u64);
     line.spaced(long as u64);

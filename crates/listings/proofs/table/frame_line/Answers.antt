@@ -7,20 +7,21 @@ use Rattle.rules.specs.Answers.{read_one}
 use Rattle.std.specs.Prelude.{Ok}
 use Rattle.stream_rules.specs.Rule.{Found}
 use Rattle.stream_rules.specs.Lister.{frame_from}
-use Rattle.lines.specs.Lines.{Types}
-use Rattle.lines.proofs.Typed.{◌then◌}
+use Rattle.lines.specs.declared.Line.{Line}
 use Rattle.listings.specs.Listing.{number_texts, line_texts}
 use Rattle.listings.specs.Parts.{part_texts}
+use Rattle.listings.specs.Tallies.{LaysLine}
 use Rattle.listings.specs.declared.table.Tally.{Tally}
 use Rattle.listings.proofs.Answers.{room}
+use Rattle.listings.proofs.Fronts.{more}
 use Rattle.listings.proofs.Tallies.{Next, next}
 use Rattle.listings.proofs.table.frame_line.Goals as goal
 
 -- what shows a frame's numbers and its bytes shows the frame
-shown : (family start skipped : ℕ) (bytes : List ℕ) (f : Found) {line after : List ℕ} {at place : ℕ}
+shown : (family start skipped : ℕ) (bytes : List ℕ) (f : Found) {line after : Line}
     → start ≡ f.start → length bytes ≡ f.length → skipped ≡ f.skipped → read_one family bytes ≡ Ok f.frame
-    → Types (number_texts start (length bytes) skipped ++ part_texts family bytes) line at after place
-    → Types (line_texts f) line at after place
+    → LaysLine (number_texts start (length bytes) skipped ++ part_texts family bytes) line after
+    → LaysLine (line_texts f) line after
 shown family start skipped bytes f a b c d typed = rw (a, b, c, d) at typed
 
 -- The bytes that are given for the next frame.
@@ -56,14 +57,11 @@ returns c =
     let f = h.frame in
     let bytes = c.next_frame-frame.result.now in
     let its = its_length _ _ _ h bytes c.next_frame-frame.ensures.content in
+    let read = ap (read_one a.tally.family) (its_bytes _ _ _ h bytes c.next_frame-frame.ensures.content) ∙ h.stands.read in
+    let lays = shown a.tally.family _ _ bytes f h.starts_here its (omega (arith, h.starts_here, h.place)) read (more c.numbers.ensures c.part_kind.ensures) in
     record {
-      types = rw h.line
-          (shown a.tally.family _ _ bytes f
-          h.starts_here
-          its
-          (omega (arith, h.starts_here, h.place))
-          (ap (read_one a.tally.family) (its_bytes _ _ _ h bytes c.next_frame-frame.ensures.content) ∙ h.stands.read)
-          (c.numbers.ensures then c.part_kind.ensures.types));
+      types = rw h.line lays.types;
+      same = lays.same;
       further = ap₂
           (λ (end inside : ℕ). record { family = a.tally.family; listed = a.tally.listed + 1; end = end; inside = inside })
           (omega (arith, h.starts_here, its, h.end))
